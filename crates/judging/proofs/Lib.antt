@@ -1,0 +1,12 @@
+pub mod Alike
+pub mod Covers
+pub mod Fits
+pub mod Into
+pub mod Marks
+pub mod Operands
+pub mod Rows
+pub mod Sofar
+pub mod RuleRows
+pub mod Turns
+pub mod Updates
+pub mod Verdicts

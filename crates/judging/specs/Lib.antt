@@ -1,0 +1,4 @@
+pub mod Tables
+pub mod Verdicts
+pub mod Judged
+pub mod Shapes
