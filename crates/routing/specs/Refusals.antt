@@ -8,14 +8,17 @@ use Rattle.std.specs.declared.option.Option.{Option}
 use Rattle.std.specs.declared.option.Option.the-variants.{Some, None}
 use Rattle.routing.specs.declared.binding.Binding.{Binding}
 use Rattle.routing.specs.declared.refusal.Refusal.{Refusal}
-use Rattle.routing.specs.declared.refusal.Refusal.the-variants.{NoPlace, OverLimit, BadTable, TooShort}
+use Rattle.routing.specs.declared.refusal.Refusal.the-variants.{NoPlace, OverLimit, BadTable, BadQuery, NoBinding, TooShort, RowFails}
 
 -- The number of each refusal.
 abbrev pub numbered : Refusal → ℕ
 numbered NoPlace = 8
 numbered OverLimit = 9
 numbered BadTable = 10
+numbered BadQuery = 11
+numbered NoBinding = 13
 numbered TooShort = 14
+numbered RowFails = 26
 
 -- Each end of each binding is one of n places.
 abbrev pub all-inside : {S : Type 0} → ℕ → List (Binding S) → Bool

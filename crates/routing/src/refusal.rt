@@ -8,10 +8,16 @@ pub enum Refusal {
     NoPlace,
     // Over a count limit.
     OverLimit,
-    // A rule table outside its rules.
+    // A rule table that is not accepted.
     BadTable,
+    // The asked row, its operation, the place or the setting does not fit.
+    BadQuery,
+    // No binding has the number.
+    NoBinding,
     // A work space or a list is too short.
     TooShort,
+    // The asked row does not hold at the asked position.
+    RowFails,
 }
 
 impl Refusal {
@@ -22,7 +28,10 @@ impl Refusal {
             Refusal::NoPlace => 8,
             Refusal::OverLimit => 9,
             Refusal::BadTable => 10,
+            Refusal::BadQuery => 11,
+            Refusal::NoBinding => 13,
             Refusal::TooShort => 14,
+            Refusal::RowFails => 26,
         }
     }
 }
