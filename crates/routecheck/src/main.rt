@@ -1,13 +1,11 @@
 // Judges two built-in trial networks of word sets and prints what it found, a line for each rule.
-mod sample;
-mod site;
-
 use conditions::word::Word;
 use conditions::word::WordSet;
 use judging::row::Row;
 use judging::verdict::Verdict;
 use routing::binding::Binding;
-use site::judge_site;
+use samples::networks;
+use samples::site::judge_site;
 use std::io;
 
 // Prints the verdict on one rule: `N holds ROUNDS`, `N breaks PLACE SETTING ROUNDS` or `refused NUMBER`.
@@ -46,16 +44,16 @@ fn main(rt: LibcRuntime) -> io::Result<()> {
     print_verdict(
         &rt,
         0,
-        &sample::P_MARKS,
-        &sample::P_BINDINGS,
-        &sample::AF_M1,
+        &networks::P_MARKS,
+        &networks::P_BINDINGS,
+        &networks::AF_M1,
     )?;
     print_verdict(
         &rt,
         1,
-        &sample::P_MARKS,
-        &sample::P_BINDINGS,
-        &sample::EF_M1_OR_NOT_C0,
+        &networks::P_MARKS,
+        &networks::P_BINDINGS,
+        &networks::EF_M1_OR_NOT_C0,
     )?;
     println!(
         rt,
@@ -64,22 +62,22 @@ fn main(rt: LibcRuntime) -> io::Result<()> {
     print_verdict(
         &rt,
         0,
-        &sample::L_MARKS,
-        &sample::L_BINDINGS,
-        &sample::AF_M1,
+        &networks::L_MARKS,
+        &networks::L_BINDINGS,
+        &networks::AF_M1,
     )?;
     print_verdict(
         &rt,
         1,
-        &sample::L_MARKS,
-        &sample::L_BINDINGS,
-        &sample::AG_EF_M1,
+        &networks::L_MARKS,
+        &networks::L_BINDINGS,
+        &networks::AG_EF_M1,
     )?;
     print_verdict(
         &rt,
         2,
-        &sample::L_MARKS,
-        &sample::L_BINDINGS,
-        &sample::EF_M1,
+        &networks::L_MARKS,
+        &networks::L_BINDINGS,
+        &networks::EF_M1,
     )
 }
