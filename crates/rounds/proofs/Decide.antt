@@ -1,4 +1,4 @@
--- A search that decides every rule at every position: the rounds of its parts, as many as there are places.
+-- The test of every rule decides its meaning.
 use mathlib.Core.Path.{refl}
 use mathlib.Core.Bool.{Bool, true, not, _&&_, _||_}
 use lib.ListN.{getD}
@@ -8,29 +8,11 @@ use Rattle.routing.specs.Net.{Net, Pos, places}
 use Rattle.routing.specs.Routes.{EveryNext, SomeUntil, EveryUntil, SomeAlways, EveryAlways}
 use Rattle.routing.specs.Rules.{Rule, truth, mark, condition, non, both, either, ex, eu, eg, ef, ax, au, ag, af, Means}
 use Rattle.rounds.specs.Rounds.{Decided}
-use Rattle.rounds.proofs.Search.{into, grown, kept, all-decided, into-decides, grown-decides, kept-decides}
+use Rattle.rounds.specs.Search.{into, grown, kept, search}
+use Rattle.rounds.proofs.Search.{all-decided, into-decides, grown-decides, kept-decides}
 use Rattle.rounds.proofs.Settle.{until-settled, always-settled}
 use Rattle.rounds.proofs.Exact.{until-exact, always-exact}
 use Rattle.rounds.proofs.Every.{not-decided, every-next, every-until, every-some, every-always}
-
--- Whether the rule is true at the position.
-unfoldable pub search : Net → Rule → Pos → Bool
-search N truth x = true
-search N (mark k) x = bit (getD (N .marks) (x .place) 0) k
-search N (condition k) x = bit (x .setting) k
-search N (non p) x = not (search N p x)
-search N (both p q) x = search N p x && search N q x
-search N (either p q) x = search N p x || search N q x
-search N (ex p) x = into N (search N p) x
-search N (eu p q) x = grown N (search N p) (search N q) (places N) x
-search N (eg p) x = kept N (search N p) (places N) x
-search N (ef q) x = grown N (λ _. true) (search N q) (places N) x
-search N (ax p) x = not (into N (λ y. not (search N p y)) x)
-search N (au p q) x =
-    not (grown N (λ y. not (search N q y)) (λ y. not (search N p y) && not (search N q y)) (places N) x
-    || kept N (λ y. not (search N q y)) (places N) x)
-search N (ag p) x = not (grown N (λ _. true) (λ y. not (search N p y)) (places N) x)
-search N (af q) x = not (kept N (λ y. not (search N q y)) (places N) x)
 
 module _ (N : Net) (p q : Pos → Bool) (P Q : Pos → Type 0) (dp : Decided N p P) (dq : Decided N q Q) where
   until-decided : Decided N (grown N p q (places N)) (SomeUntil N P Q)

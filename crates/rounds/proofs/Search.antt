@@ -1,4 +1,4 @@
--- Tests for steps into a set and for the rounds, and that they decide.
+-- The tests for steps into a set and for the rounds decide.
 use mathlib.Core.Path.{_≡_, refl, sym, subst}
 use mathlib.Core.Bool.{Bool, true, false, not, _&&_, _||_}
 use mathlib.Core.List.{List, [], _∷_}
@@ -15,42 +15,8 @@ use Rattle.std.proofs.shelf.Ways.{decides-eqb, decides-ltb, decides-like, decid
 use Rattle.routing.specs.Net.{Link, Net, Pos, Rests, places, settings}
 use Rattle.routing.specs.Routes.{SomeNext}
 use Rattle.rounds.specs.Rounds.{Grown, Kept, Decided}
+use Rattle.rounds.specs.Search.{anyBelow, anyOf, reached, leads, into, moves, grown, kept}
 use Rattle.rounds.proofs.Tests.{told, decides-then}
-
--- Some number below n passes.
-unfoldable pub anyBelow : ℕ → (ℕ → Bool) → Bool
-anyBelow zero f = false
-anyBelow (suc n) f = f n || anyBelow n f
-
--- Some binding passes.
-unfoldable pub anyOf : (Link → Bool) → List Link → Bool
-anyOf f [] = false
-anyOf f (b ∷ bs) = f b || anyOf f bs
-
--- Some setting of the place is in the set.
-unfoldable pub reached : Net → (Pos → Bool) → ℕ → Bool
-reached N X t = anyBelow (settings N) (λ a. X (record { place = t; setting = a }))
-
--- The binding leads from x into the set.
-unfoldable pub leads : Net → (Pos → Bool) → Pos → Link → Bool
-leads N X x b = eqb (b .from) (x .place) && (b .forwards (x .setting) && (ltb (b .to) (places N) && reached N X (b .to)))
-
--- Some step leads into the set.
-unfoldable pub into : Net → (Pos → Bool) → Pos → Bool
-into N X x = anyOf (leads N X x) (N .bindings)
-
--- Some step leads on.
-unfoldable pub moves : Net → Pos → Bool
-moves N x = into N (λ _. true) x
-
--- The rounds of E[p U q] and of EG p.
-unfoldable pub grown : Net → (Pos → Bool) → (Pos → Bool) → ℕ → Pos → Bool
-grown N p q zero x = q x
-grown N p q (suc i) x = grown N p q i x || (p x && into N (grown N p q i) x)
-
-unfoldable pub kept : Net → (Pos → Bool) → ℕ → Pos → Bool
-kept N p zero x = p x
-kept N p (suc i) x = kept N p i x && (not (moves N x) || into N (kept N p i) x)
 
 below-decides : (n : ℕ) (f : ℕ → Bool) (P : ℕ → Type 0) → ((i : ℕ) → i < n → Decides (f i) (P i)) → Decides (anyBelow n f) ((i : ℕ) × (i < n) × P i)
 unfolding anyBelow
