@@ -17,3 +17,8 @@ picked-like P Q m same h = (same m .0 (h .0), λ a below q. h .1 a below (same a
 pub picked-least : (P : ℕ → Type 0) (m : ℕ) → P m → ((a : ℕ) → a < m → ¬ (P a)) → Picked P m
 unfolding Picked
 picked-least P m here none = (here, none)
+
+-- No number below the picked one has P.
+pub picked-first : (P : ℕ → Type 0) (m : ℕ) → Picked P m → (a : ℕ) → a < m → ¬ (P a)
+unfolding Picked
+picked-first P m h = h .1

@@ -5,7 +5,7 @@ use mathlib.Core.List.{List}
 use Prim.Native.Nat.{ℕ, suc, _+_, _-_, _*_, _<_, _≤_}
 use native.Mathlib.Nat.{mul-le-mul-right, suc-mul}
 use native.Mathlib.Omega.{arith}
-use lib.ListN.{length, take, drop}
+use lib.ListN.{length, take, drop, length-take, length-drop}
 use borrow.Rule.Slice.PartMut.{putMid}
 use Rattle.std.specs.declared.option.Option.{Option}
 use Rattle.std.specs.declared.option.Option.the-variants.{Some, None}
@@ -24,6 +24,10 @@ use Rattle.judging.specs.Shapes.{Shape, Rounds, first-is-row, second-is-row}
 -- The part of an earlier row ends where that of a later one begins, or before.
 pub part-before : (k row n : ℕ) → k < row → k * n + n ≤ row * n
 part-before k row n l = let s = suc-mul k n in let m = mul-le-mul-right {m = suc k} {n = row} n l in omega arith
+
+-- The part of a row has as many sets as there are places.
+pub part-long : {S : Type 0} (n r : ℕ) (main : List S) → r * n + n ≤ length main → length (row-part n r main) ≡ n
+part-long n r main l = simp (length-take, length-drop) (omega arith)
 
 -- An operand that is a row has its part within the main list.
 pub operand-within : (o : Option ℕ) (t : Bool) (k row n len : ℕ) → o ≡ cond t (Some k) None → (t ≡ true → k < row) → row * n + n ≤ len

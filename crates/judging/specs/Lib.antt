@@ -1,4 +1,9 @@
+pub mod Chosen
+pub mod Judged
+pub mod Notes
+pub mod Queries
+pub mod Shapes
+pub mod Shown
+pub mod Steps
 pub mod Tables
 pub mod Verdicts
-pub mod Judged
-pub mod Shapes

@@ -143,7 +143,12 @@ fn operands(op: Operation) -> (Option<u8>, Option<u8>)
 }
 
 // Copies the part of a row, if one is named, to a half of the spare.
-fn copy_operand<S: ConditionSet>(named: Option<u8>, places: usize, main: &[S], half: &mut [S])
+pub(crate) fn copy_operand<S: ConditionSet>(
+    named: Option<u8>,
+    places: usize,
+    main: &[S],
+    half: &mut [S],
+)
     requires long { ⌜ length (now half) ≡ places ⌝ }
     requires within { ⌜ Cases named (Unit {0}) (λ r. r * places + places ≤ length (now main)) ⌝ }
     ensures { λ _. ⌜ Cases named (Unit {0}) (λ r. now (half .exit) ≡ row-part places r (now (main .entry))) ⌝ }

@@ -8,8 +8,8 @@ use Rattle.std.specs.declared.option.Option.the-variants.{Some, None}
 use Rattle.routing.specs.Net.{Link, Net, Pos, places, settings}
 use Rattle.routing.specs.Rules.{Rule, truth, mark, condition, non, both, either, ex, eu, eg, ef, ax, au, ag, af}
 use Rattle.rounds.specs.Search.{grown, search}
-use Rattle.routes.specs.declared.shown.Ending.{Ending}
-use Rattle.routes.specs.declared.shown.Ending.the-variants.{Reaches, Rests, Returns}
+use Rattle.judging.specs.declared.shown.Ending.{Ending}
+use Rattle.judging.specs.declared.shown.Ending.the-variants.{Reaches, Rests, Returns}
 
 -- The least of the n numbers from a on that passes.
 unfoldable pub least-from : ℕ → ℕ → (ℕ → Bool) → Option ℕ
@@ -79,7 +79,7 @@ unfoldable pub index-of : Pos → List Pos → Option ℕ
 index-of x [] = None
 index-of x (y ∷ ys) = cond (same-pos x y) (Some 0) (one-later (index-of x ys))
 
--- EG p: each hop leads into the set, until a position rests or has been seen before.
+-- EG p: each hop leads into the set, until a position rests or has been seen before (at the latest when places N + 1 positions are seen).
 abbrev pub returns-or : List Pos → Option ℕ → Chosen → Chosen
 returns-or seen None c = c
 returns-or seen (Some i) c = record { positions = seen; ending = Returns i }
@@ -89,7 +89,7 @@ rests-or seen None f = record { positions = seen; ending = Rests }
 rests-or seen (Some y) f = f y
 
 unfoldable pub walk-always : Net → (Pos → Bool) → ℕ → List Pos → Pos → Chosen
-walk-always N X zero seen x = record { positions = seen; ending = Rests }
+walk-always N X zero seen x = returns-or seen (index-of x seen) (record { positions = seen; ending = Rests })
 walk-always N X (suc n) seen x =
     returns-or seen (index-of x seen) (rests-or (seen ++ (x ∷ [])) (next-in N X x) (walk-always N X n (seen ++ (x ∷ []))))
 
@@ -97,7 +97,7 @@ walk-always N X (suc n) seen x =
 unfoldable pub chosen : Net → Rule → Pos → Chosen
 chosen N (ex p) x = chosen-next x (next-in N (search N p) x)
 chosen N (eu p q) x = chosen-until N (search N p) (search N q) x
-chosen N (eg p) x = walk-always N (search N (eg p)) (places N + 2) [] x
+chosen N (eg p) x = walk-always N (search N (eg p)) (places N + 1) [] x
 chosen N truth x = record { positions = []; ending = Rests }
 chosen N (mark k) x = record { positions = []; ending = Rests }
 chosen N (condition k) x = record { positions = []; ending = Rests }

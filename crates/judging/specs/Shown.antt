@@ -8,8 +8,8 @@ use Rattle.std.specs.Finite.{nth}
 use Rattle.routing.specs.Net.{Net, Pos, Within, Step, Rests as AtRest, places}
 use Rattle.routing.specs.Routes.{Route, Until}
 use Rattle.routing.specs.Rules.{Rule, truth, mark, condition, non, both, either, ex, eu, eg, ef, ax, au, ag, af, Means}
-use Rattle.routes.specs.declared.shown.Ending.{Ending}
-use Rattle.routes.specs.declared.shown.Ending.the-variants.{Reaches, Rests, Returns}
+use Rattle.judging.specs.declared.shown.Ending.{Ending}
+use Rattle.judging.specs.declared.shown.Ending.the-variants.{Reaches, Rests, Returns}
 
 -- Different positions, from x on, each joined to the next by a step, and not more than there are places and one.
 pub record Trail (N : Net) (x : Pos) (ps : List Pos) : Type 0 where

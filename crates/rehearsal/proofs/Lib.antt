@@ -1,0 +1,2 @@
+pub mod Shutting
+pub mod Rehearsals

@@ -1,2 +1,0 @@
-// Shown routes: where a rule holds by some route, one that shows it.
-pub mod shown;

@@ -1,0 +1,146 @@
+// One drawn network, tried with drawn tables.
+use crate::comparison::compare_all_hops;
+use crate::comparison::compare_rest;
+use crate::comparison::compare_rounds;
+use crate::comparison::compare_rows;
+use crate::comparison::compare_verdict;
+use crate::generator::network::draw_network;
+use crate::generator::random::Random;
+use crate::generator::sets::Draw;
+use crate::generator::table::draw_table;
+use crate::kinds::count_kinds;
+use crate::search::graph::Graph;
+use crate::search::rows::Found;
+use crate::search::rows::work_rows;
+use crate::tally::Seen;
+use crate::tally::Tally;
+use conditions::set::ConditionSet;
+use judging::entries::judge_entries;
+use judging::judge::judge;
+use judging::row::Row;
+use routing::binding::Binding;
+use routing::network::Network;
+use routing::site::SiteTable;
+use routing::site::table::SiteNetwork;
+use std::alloc::AllocError;
+use std::alloc::Global;
+
+const TABLES: usize = 5;
+
+// More than the sets of eight rows at ten places.
+const MAIN: usize = 96;
+
+// Two sets for each of ten places.
+const SPARE: usize = 20;
+
+fn operation_of(row: Row) -> Seen {
+    match row.operation {
+        0 => Seen::YesRows,
+        1 => Seen::MarkRows,
+        2 => Seen::ConditionRows,
+        3 => Seen::NotRows,
+        4 => Seen::AndRows,
+        5 => Seen::OrRows,
+        6 => Seen::NextRows,
+        7 => Seen::UntilRows,
+        _ => Seen::AlwaysRows,
+    }
+}
+
+// Counts the rows by operation, and those of two and more, and of five and more rounds.
+fn count_rows(table: &[Row], rows: &Vec<Found>, tally: &mut Tally) {
+    for (row, found) in table.iter().zip(rows.iter()) {
+        tally.add(operation_of(*row), 1);
+        tally.add(Seen::LongestRows, usize::from(found.rounds >= 5));
+        let long = usize::from(found.rounds >= 2);
+        match row.operation {
+            7 => tally.add(Seen::LongUntilRows, long),
+            8 => tally.add(Seen::LongAlwaysRows, long),
+            _ => {}
+        }
+    }
+}
+
+// So many sets, each of all settings.
+fn full_sets<S: ConditionSet>(heap: Global, count: usize) -> Result<Vec<S>, AllocError> {
+    let mut sets = Vec::new(heap);
+    for _ in 0..count {
+        sets.push(S::all())?;
+    }
+    Ok(sets)
+}
+
+// Judges a network against a table in both ways that judging has, and compares.
+fn try_table<N: Network>(
+    heap: Global,
+    net: &N,
+    graph: &Graph,
+    table: &[Row],
+    tally: &mut Tally,
+) -> Result<(), AllocError> {
+    let rows = work_rows(heap, graph, table)?;
+    let mut main = full_sets(heap, MAIN)?;
+    let mut spare = full_sets(heap, SPARE)?;
+    match judge(net, table, &mut main, &mut spare) {
+        Ok(rounds) => {
+            compare_rows(graph, &rows, &main, tally);
+            compare_rounds(&rows, rounds, tally);
+            compare_rest(graph, table.len(), &main, tally);
+        }
+        Err(_) => tally.add(Seen::Refusals, 1),
+    }
+    match judge_entries(net, table, &mut main, &mut spare) {
+        Ok(judgement) => {
+            compare_rounds(&rows, judgement.rounds, tally);
+            compare_verdict(graph, &rows, judgement.verdict, tally);
+        }
+        Err(_) => tally.add(Seen::Refusals, 1),
+    }
+    compare_all_hops(heap, graph, &rows, table, tally)?;
+    count_rows(table, &rows, tally);
+    tally.add(Seen::Tables, 1);
+    Ok(())
+}
+
+// Tries a network with drawn tables.
+fn try_tables<N: Network>(
+    heap: Global,
+    net: &N,
+    random: &mut Random,
+    tally: &mut Tally,
+) -> Result<(), AllocError> {
+    let graph = Graph::of(heap, net)?;
+    count_kinds(net, &graph, tally);
+    for _ in 0..TABLES {
+        let table = draw_table(heap, random, net.conditions())?;
+        try_table(heap, net, &graph, &table, tally)?;
+    }
+    Ok(())
+}
+
+// Opens a site table and tries it.
+fn try_site<'a, S: ConditionSet>(
+    heap: Global,
+    marks: &'a [u32],
+    bindings: &'a [Binding<S>],
+    random: &mut Random,
+    tally: &mut Tally,
+) -> Result<(), AllocError> {
+    match SiteTable::open(marks, bindings) {
+        Ok(site) => try_tables(heap, &site, random, tally),
+        Err(_) => {
+            tally.add(Seen::Refusals, 1);
+            Ok(())
+        }
+    }
+}
+
+// Draws a network and tries it.
+pub fn try_network<S: Draw>(
+    heap: Global,
+    random: &mut Random,
+    tally: &mut Tally,
+) -> Result<(), AllocError> {
+    let drawn = draw_network::<S>(heap, random)?;
+    try_site(heap, &drawn.marks, &drawn.bindings, random, tally)
+}
