@@ -10,6 +10,7 @@ pub mod row;
 mod sets;
 mod showing;
 pub mod shown;
+pub mod site;
 pub mod table;
 mod until;
 pub mod verdict;

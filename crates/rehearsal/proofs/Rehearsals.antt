@@ -21,10 +21,11 @@ use Rattle.routing.specs.Rules.{Means}
 use Rattle.judging.specs.declared.row.Row.{Row}
 use Rattle.judging.specs.declared.verdict.Judgement.{Judgement}
 use Rattle.judging.specs.Judged.{judge-refusal, RoundsBefore}
+use Rattle.judging.specs.Sites.{first-refusal}
 use Rattle.judging.specs.Tables.{accepted, rule-at}
 use Rattle.judging.specs.Verdicts.{Told}
 use Rattle.rehearsal.specs.Shutting.{word-holds, shut-at}
-use Rattle.rehearsal.specs.Rehearsals.{shut-net, first-refusal, rehearse-refusal}
+use Rattle.rehearsal.specs.Rehearsals.{shut-net, rehearse-refusal}
 use Rattle.rehearsal.proofs.Shutting.{shut-opening}
 
 -- Without the test of the number there is no refusal either.

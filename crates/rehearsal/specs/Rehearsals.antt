@@ -14,17 +14,13 @@ use Rattle.routing.specs.Net.{Net}
 use Rattle.routing.specs.Bindings.{net-of}
 use Rattle.routing.specs.Refusals.{opening}
 use Rattle.judging.specs.declared.row.Row.{Row}
+use Rattle.judging.specs.Sites.{first-refusal}
 use Rattle.judging.specs.Tables.{accepted}
 use Rattle.rehearsal.specs.Shutting.{word-holds, shut-at}
 
 -- The network of the marks and the records, with binding i shut.
 abbrev pub shut-net : List ℕ → List (Binding Word) → ℕ → Net
 shut-net marks records i = net-of 6 word-holds marks (shut-at i records)
-
--- The first of two refusals.
-abbrev pub first-refusal : Option Refusal → Option Refusal → Option Refusal
-first-refusal None next = next
-first-refusal (Some e) next = Some e
 
 -- Why a rehearsal is refused: the marks and records, else the table, else a number that is no binding,
 -- else a main list shorter than rows × places or a spare shorter than 2 × places.

@@ -8,7 +8,7 @@ use conditions::word::Word;
 use routing::binding::Binding;
 
 // Empties the set of a binding, and answers the old set.
-pub fn empty_set(records: &mut [Binding<Word>], number: usize) -> Word
+pub(crate) fn empty_set(records: &mut [Binding<Word>], number: usize) -> Word
     requires { ⌜ number < length (now records) ⌝ }
     ensures value { λ r. ⌜ r ≡ set-at (now (records .entry)) number ⌝ }
     ensures closed { λ _. ⌜ ((a : ℕ) → word-holds (set-at (now (records .exit)) number) a ≡ false) ⌝ }

@@ -2,10 +2,10 @@
 use conditions::word::Word;
 use conditions::word::WordSet;
 use judging::row::Row;
+use judging::site::judge_site;
 use judging::verdict::Verdict;
 use routing::binding::Binding;
 use samples::networks;
-use samples::site::judge_site;
 use std::io;
 
 // Prints the verdict on one rule: `N holds ROUNDS`, `N breaks PLACE SETTING ROUNDS` or `refused NUMBER`.

@@ -1,5 +1,4 @@
-// The trial networks P and L with their rules, and judging lent lists of any condition set.
+// The trial networks P and L, with their rules as tables.
 pub mod networks;
-pub mod site;
 #[cfg(test)]
 mod tests;

@@ -1,9 +1,9 @@
 // The verdicts on the trial networks.
 use crate::networks;
-use crate::site::judge_site;
 use conditions::word::Word;
 use conditions::word::WordSet;
 use judging::row::Row;
+use judging::site::judge_site;
 use judging::verdict::Verdict;
 use judging::verdict::VerdictDebug;
 use judging::verdict::VerdictPartialEq;

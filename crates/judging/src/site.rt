@@ -5,19 +5,33 @@ ghost use lib.ListN.{length};
 ghost use Rattle.std.specs.Results.{Cases};
 ghost use Rattle.std.specs.declared.option.Option.the-variants.{Some, None};
 ghost use Rattle.routing.specs.Bindings.{net-of};
+ghost use Rattle.routing.specs.Refusals.{opening};
 ghost use Rattle.routing.specs.Rules.{Means};
 ghost use Rattle.judging.specs.Judged.{Judged};
 ghost use Rattle.judging.specs.Tables.{rule-at};
 ghost use Rattle.judging.specs.Verdicts.{Told};
-ghost use Rattle.samples.specs.Sites.{site-refusal};
+ghost use Rattle.judging.specs.Sites.{site-refusal};
+use crate::entries::judge_entries;
+use crate::row::Row;
+use crate::verdict::Judgement;
 use conditions::set::ConditionSet;
-use judging::entries::judge_entries;
-use judging::row::Row;
-use judging::verdict::Judgement;
 use routing::binding::Binding;
 use routing::refusal::Refusal;
 use routing::site::SiteTable;
 use routing::site::table::SiteNetwork;
+
+// Why marks and records are refused, if they are.
+pub fn site_refusal<'a, S: ConditionSet>(
+    marks: &'a [u32],
+    records: &'a [Binding<S>],
+) -> Option<Refusal>
+    ensures { λ r. ⌜ r ≡ opening (now (marks .entry)) (now (records .entry)) ⌝ }
+{
+    match SiteTable::open(marks, records) {
+        Ok(_) => None,
+        Err(refusal) => Some(refusal),
+    }
+}
 
 // Opens a site table on the lent lists and judges it at its entries.
 pub fn judge_site<'a, S: ConditionSet>(
