@@ -1,39 +1,41 @@
-// The trial networks and their rules as tables.
+// The trial networks as lists, and their rules as tables.
+ghost use mathlib.Core.Path.{_≡_};
+ghost use Rattle.samples.specs.Networks.{p-marks, p-records, l-marks, l-records};
 use conditions::word::Word;
 use judging::row::Row;
 use routing::binding::Binding;
 
 // P: place 0 has mark 0, place 1 has mark 1.
-pub const P_MARKS: [u32; 2] = [1, 2];
+pub fn p_marks() -> [u32; 2]
+    ensures { λ r. ⌜ r ≡ p-marks ⌝ }
+{
+    [1, 2]
+}
 
 // P: 0 to 1 while condition 0 is on.
-pub const P_BINDINGS: [Binding<Word>; 1] = [Binding {
-    from: 0,
-    to: 1,
-    set: Word(0xAAAA_AAAA_AAAA_AAAA),
-}];
+pub fn p_bindings() -> [Binding<Word>; 1]
+    ensures { λ r. ⌜ r ≡ p-records ⌝ }
+{
+    [Binding { from: 0, to: 1, set: Word(0xAAAA_AAAA_AAAA_AAAA) }]
+}
 
 // L: place 0 has mark 0, place 2 has mark 1.
-pub const L_MARKS: [u32; 3] = [1, 0, 2];
+pub fn l_marks() -> [u32; 3]
+    ensures { λ r. ⌜ r ≡ l-marks ⌝ }
+{
+    [1, 0, 2]
+}
 
 // L: 0 to 1 always, 1 to 2 while condition 0 is on, 1 to 0 while it is off.
-pub const L_BINDINGS: [Binding<Word>; 3] = [
-    Binding {
-        from: 0,
-        to: 1,
-        set: Word(0xFFFF_FFFF_FFFF_FFFF),
-    },
-    Binding {
-        from: 1,
-        to: 2,
-        set: Word(0xAAAA_AAAA_AAAA_AAAA),
-    },
-    Binding {
-        from: 1,
-        to: 0,
-        set: Word(0x5555_5555_5555_5555),
-    },
-];
+pub fn l_bindings() -> [Binding<Word>; 3]
+    ensures { λ r. ⌜ r ≡ l-records ⌝ }
+{
+    [
+        Binding { from: 0, to: 1, set: Word(0xFFFF_FFFF_FFFF_FFFF) },
+        Binding { from: 1, to: 2, set: Word(0xAAAA_AAAA_AAAA_AAAA) },
+        Binding { from: 1, to: 0, set: Word(0x5555_5555_5555_5555) },
+    ]
+}
 
 // AF m1: m1, not, some route keeps to it, not.
 pub const AF_M1: [Row; 4] = [

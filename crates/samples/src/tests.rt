@@ -28,15 +28,15 @@ fn check_verdict(
 #[test]
 fn trial_network_p() -> Result<(), Fail> {
     check_verdict(
-        &networks::P_MARKS,
-        &networks::P_BINDINGS,
+        &networks::p_marks(),
+        &networks::p_bindings(),
         &networks::AF_M1,
         Verdict::Breaks(0, 0),
         1,
     )?;
     check_verdict(
-        &networks::P_MARKS,
-        &networks::P_BINDINGS,
+        &networks::p_marks(),
+        &networks::p_bindings(),
         &networks::EF_M1_OR_NOT_C0,
         Verdict::Holds,
         1,
@@ -46,22 +46,22 @@ fn trial_network_p() -> Result<(), Fail> {
 #[test]
 fn trial_network_l() -> Result<(), Fail> {
     check_verdict(
-        &networks::L_MARKS,
-        &networks::L_BINDINGS,
+        &networks::l_marks(),
+        &networks::l_bindings(),
         &networks::AF_M1,
         Verdict::Breaks(0, 0),
         1,
     )?;
     check_verdict(
-        &networks::L_MARKS,
-        &networks::L_BINDINGS,
+        &networks::l_marks(),
+        &networks::l_bindings(),
         &networks::AG_EF_M1,
         Verdict::Holds,
         3,
     )?;
     check_verdict(
-        &networks::L_MARKS,
-        &networks::L_BINDINGS,
+        &networks::l_marks(),
+        &networks::l_bindings(),
         &networks::EF_M1,
         Verdict::Holds,
         3,
@@ -74,8 +74,8 @@ fn short_list() -> Result<(), Fail> {
     let mut main = [Word(7); 11];
     let mut spare = [Word(0); 6];
     match judge_site(
-        &networks::L_MARKS,
-        &networks::L_BINDINGS,
+        &networks::l_marks(),
+        &networks::l_bindings(),
         &networks::AF_M1,
         &mut main,
         &mut spare,

@@ -1,0 +1,15 @@
+mod Accepts
+mod Answered
+mod Alike
+mod Bracketed
+mod Claimed
+mod Emitted
+mod Fitting
+mod Grown
+mod Once
+mod Parts
+mod Pieces
+mod Spelled
+mod Stands
+mod Steps
+mod Verdict

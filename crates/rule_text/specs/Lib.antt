@@ -1,0 +1,10 @@
+pub mod Words
+pub mod Texts
+pub mod Grammar
+pub mod Brackets
+pub mod Levels
+pub mod Rows
+pub mod Faults
+pub mod Reading
+pub mod Claims
+pub mod Descent
