@@ -38,7 +38,7 @@ t-decided : (i : ℕ) → grown L (search L truth) (search L m1) i (at 0 0) ≡ 
 unfolding T
 t-decided i e h =
     both-ways (grown L (search L truth) (search L m1) i (at 0 0)) e
-      (grown-decides L (search L truth) (search L m1) (Means L truth) (Means L m1) (search-decides L truth) (search-decides L m1) i (at 0 0) (in-l 0 0 (lit< tt) (lit< tt)) .1 h)
+    (grown-decides L (search L truth) (search L m1) (Means L truth) (Means L m1) (search-decides L truth) (search-decides L m1) i (at 0 0) (in-l 0 0 (lit< tt) (lit< tt)) .1 h)
 
 not-one : grown L (search L truth) (search L m1) 1 (at 0 0) ≡ false
 unfolding search anyBelow anyOf reached leads into moves grown kept
@@ -78,4 +78,5 @@ worked = record {
   l-ag-ef = l-told (ag (ef m1)) refl;
   l-af = l-told (non (af m1)) refl;
   l-eu = l-told (non (eu m0 m1)) refl;
-  l-af-route = refl }
+  l-af-route = refl;
+}

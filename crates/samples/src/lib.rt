@@ -8,5 +8,4 @@ mod tests;
 // Carries the worked cases as one theorem; it answers nothing.
 pub fn worked_cases()
     ensures { λ _. ⌜ Worked-cases ⌝ }
-{
-}
+{}

@@ -16,7 +16,12 @@ pub fn p_marks() -> [u32; 2]
 pub fn p_bindings() -> [Binding<Word>; 1]
     ensures { λ r. ⌜ r ≡ p-records ⌝ }
 {
-    [Binding { from: 0, to: 1, set: Word(0xAAAA_AAAA_AAAA_AAAA) }]
+    let on = Word(0xAAAA_AAAA_AAAA_AAAA);
+    [Binding {
+        from: 0,
+        to: 1,
+        set: on,
+    }]
 }
 
 // L: place 0 has mark 0, place 2 has mark 1.
@@ -31,9 +36,21 @@ pub fn l_bindings() -> [Binding<Word>; 3]
     ensures { λ r. ⌜ r ≡ l-records ⌝ }
 {
     [
-        Binding { from: 0, to: 1, set: Word(0xFFFF_FFFF_FFFF_FFFF) },
-        Binding { from: 1, to: 2, set: Word(0xAAAA_AAAA_AAAA_AAAA) },
-        Binding { from: 1, to: 0, set: Word(0x5555_5555_5555_5555) },
+        Binding {
+            from: 0,
+            to: 1,
+            set: Word(0xFFFF_FFFF_FFFF_FFFF),
+        },
+        Binding {
+            from: 1,
+            to: 2,
+            set: Word(0xAAAA_AAAA_AAAA_AAAA),
+        },
+        Binding {
+            from: 1,
+            to: 0,
+            set: Word(0x5555_5555_5555_5555),
+        },
     ]
 }
 
