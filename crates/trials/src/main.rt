@@ -1,10 +1,11 @@
-// Judges many drawn networks against drawn rule tables, and compares what judging found with a second
-// search, explicit over positions. Prints what was tried; ends with an error where anything differs, or
-// where something that was to be tried was not.
+// Judges many drawn networks against drawn rule tables, asks for routes, and compares what judging found and
+// showed with an explorer of its own, explicit over positions. Prints what was tried; ends with an error where
+// anything differs, or where something that was to be tried was not.
 mod comparison;
+mod explorer;
 mod generator;
 mod kinds;
-mod search;
+mod routes;
 mod tally;
 mod trial;
 
@@ -39,7 +40,7 @@ fn run(rt: &LibcRuntime) -> Result<(), AnyError> {
         return Err("something was not tried".into());
     }
     if tally.differs() {
-        return Err("judging and the second search differ".into());
+        return Err("judging and the explorer differ".into());
     }
     Ok(())
 }

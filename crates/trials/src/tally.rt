@@ -35,18 +35,30 @@ pub enum Seen {
     Unreachable,
     Holds,
     Breaks,
+    NextRoutes,
+    UntilRoutes,
+    AlwaysRoutes,
+    Reaching,
+    Resting,
+    Returning,
+    ShortRoutes,
+    LongRoutes,
+    RowFails,
     WrongPositions,
     WrongRounds,
     WrongVerdicts,
     WrongHops,
     WrongRest,
+    WrongRoutes,
+    WrongAnswers,
+    WrongSteps,
     Refusals,
 }
 
-const KINDS: usize = 37;
+const KINDS: usize = 49;
 
 // What has to be tried, in the order of the summary.
-const TRIED: [(Seen, &str); 31] = [
+const TRIED: [(Seen, &str); 40] = [
     (Seen::PlainNetworks, "networks of plain sets"),
     (Seen::WordNetworks, "networks of word sets"),
     (Seen::NoPlaces, "networks with no places"),
@@ -84,15 +96,27 @@ const TRIED: [(Seen, &str); 31] = [
     (Seen::Unreachable, "positions with none"),
     (Seen::Holds, "verdicts that hold"),
     (Seen::Breaks, "verdicts that break"),
+    (Seen::NextRoutes, "routes: next"),
+    (Seen::UntilRoutes, "routes: until"),
+    (Seen::AlwaysRoutes, "routes: always"),
+    (Seen::Reaching, "routes that reach"),
+    (Seen::Resting, "routes that rest"),
+    (Seen::Returning, "routes that return"),
+    (Seen::ShortRoutes, "routes of one position"),
+    (Seen::LongRoutes, "routes of three and more positions"),
+    (Seen::RowFails, "routes refused where the row is false"),
 ];
 
 // What may not come, in the order of the summary.
-const WRONG: [(Seen, &str); 6] = [
+const WRONG: [(Seen, &str); 9] = [
     (Seen::WrongPositions, "positions that differ"),
     (Seen::WrongRounds, "rounds that differ"),
     (Seen::WrongVerdicts, "verdicts that differ"),
     (Seen::WrongHops, "hops that differ"),
     (Seen::WrongRest, "lists written beyond the table"),
+    (Seen::WrongRoutes, "routes that differ"),
+    (Seen::WrongAnswers, "routes shown or refused that differ"),
+    (Seen::WrongSteps, "steps written beyond the route"),
     (Seen::Refusals, "refusals"),
 ];
 

@@ -1,17 +1,16 @@
 // One drawn network, tried with drawn tables.
-use crate::comparison::compare_all_hops;
-use crate::comparison::compare_rest;
+use crate::comparison::compare_main;
 use crate::comparison::compare_rounds;
-use crate::comparison::compare_rows;
 use crate::comparison::compare_verdict;
+use crate::explorer::graph::Graph;
+use crate::explorer::rows::Found;
+use crate::explorer::rows::work_rows;
 use crate::generator::network::draw_network;
 use crate::generator::random::Random;
 use crate::generator::sets::Draw;
 use crate::generator::table::draw_table;
 use crate::kinds::count_kinds;
-use crate::search::graph::Graph;
-use crate::search::rows::Found;
-use crate::search::rows::work_rows;
+use crate::routes::compare_routes;
 use crate::tally::Seen;
 use crate::tally::Tally;
 use conditions::set::ConditionSet;
@@ -33,31 +32,30 @@ const MAIN: usize = 96;
 // Two sets for each of ten places.
 const SPARE: usize = 20;
 
-fn operation_of(row: Row) -> Seen {
-    match row.operation {
-        0 => Seen::YesRows,
-        1 => Seen::MarkRows,
-        2 => Seen::ConditionRows,
-        3 => Seen::NotRows,
-        4 => Seen::AndRows,
-        5 => Seen::OrRows,
-        6 => Seen::NextRows,
-        7 => Seen::UntilRows,
-        _ => Seen::AlwaysRows,
-    }
-}
-
 // Counts the rows by operation, and those of two and more, and of five and more rounds.
-fn count_rows(table: &[Row], rows: &Vec<Found>, tally: &mut Tally) {
-    for (row, found) in table.iter().zip(rows.iter()) {
-        tally.add(operation_of(*row), 1);
-        tally.add(Seen::LongestRows, usize::from(found.rounds >= 5));
+fn count_rows(rows: &Vec<Found>, tally: &mut Tally) {
+    for found in rows.iter() {
         let long = usize::from(found.rounds >= 2);
-        match row.operation {
-            7 => tally.add(Seen::LongUntilRows, long),
-            8 => tally.add(Seen::LongAlwaysRows, long),
-            _ => {}
-        }
+        let kind = match found.row.operation {
+            0 => Seen::YesRows,
+            1 => Seen::MarkRows,
+            2 => Seen::ConditionRows,
+            3 => Seen::NotRows,
+            4 => Seen::AndRows,
+            5 => Seen::OrRows,
+            6 => Seen::NextRows,
+            7 => {
+                tally.add(Seen::LongUntilRows, long);
+                Seen::UntilRows
+            }
+            _ => {
+                tally.add(Seen::LongAlwaysRows, long);
+                Seen::AlwaysRows
+            }
+        };
+        tally.add(kind, 1);
+        tally.add(Seen::LongestRows, usize::from(found.rounds >= 5));
+        tally.add(Seen::Rows, 1);
     }
 }
 
@@ -70,7 +68,7 @@ fn full_sets<S: ConditionSet>(heap: Global, count: usize) -> Result<Vec<S>, Allo
     Ok(sets)
 }
 
-// Judges a network against a table in both ways that judging has, and compares.
+// Judges a network against a table in both ways that judging has, asks for routes, and compares.
 fn try_table<N: Network>(
     heap: Global,
     net: &N,
@@ -83,9 +81,8 @@ fn try_table<N: Network>(
     let mut spare = full_sets(heap, SPARE)?;
     match judge(net, table, &mut main, &mut spare) {
         Ok(rounds) => {
-            compare_rows(graph, &rows, &main, tally);
+            compare_main(graph, &rows, &main, tally);
             compare_rounds(&rows, rounds, tally);
-            compare_rest(graph, table.len(), &main, tally);
         }
         Err(_) => tally.add(Seen::Refusals, 1),
     }
@@ -96,10 +93,8 @@ fn try_table<N: Network>(
         }
         Err(_) => tally.add(Seen::Refusals, 1),
     }
-    compare_all_hops(heap, graph, &rows, table, tally)?;
-    count_rows(table, &rows, tally);
-    tally.add(Seen::Tables, 1);
-    Ok(())
+    count_rows(&rows, tally);
+    compare_routes(heap, net, graph, table, &rows, &mut main, &mut spare, tally)
 }
 
 // Tries a network with drawn tables.
@@ -114,6 +109,7 @@ fn try_tables<N: Network>(
     for _ in 0..TABLES {
         let table = draw_table(heap, random, net.conditions())?;
         try_table(heap, net, &graph, &table, tally)?;
+        tally.add(Seen::Tables, 1);
     }
     Ok(())
 }
