@@ -199,8 +199,9 @@ fn compare_answer(
             query.holds
         }
         Err(refusal) => {
-            tally.add(Seen::RowFails, 1);
-            !query.holds && refusal.number() == ROW_FAILS
+            let fails = refusal.number() == ROW_FAILS;
+            tally.add(Seen::RowFails, usize::from(fails));
+            fails && !query.holds
         }
     };
     tally.add(Seen::WrongAnswers, usize::from(!fits));

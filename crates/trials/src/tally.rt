@@ -104,7 +104,7 @@ const TRIED: [(Seen, &str); 40] = [
     (Seen::Returning, "routes that return"),
     (Seen::ShortRoutes, "routes of one position"),
     (Seen::LongRoutes, "routes of three and more positions"),
-    (Seen::RowFails, "routes refused where the row is false"),
+    (Seen::RowFails, "routes refused with 26"),
 ];
 
 // What may not come, in the order of the summary.
