@@ -9,7 +9,12 @@ use conditions::set::ConditionSet;
 use judging::verdict::Verdict;
 
 // At how many positions the sets that judging wrote, one for each place, differ from a row.
-fn count_wrong<S: ConditionSet>(graph: &Graph, held: &[bool], main: &[S], start: usize) -> usize {
+pub fn count_wrong<S: ConditionSet>(
+    graph: &Graph,
+    held: &[bool],
+    main: &[S],
+    start: usize,
+) -> usize {
     let mut wrong = 0usize;
     for position in 0..graph.size() {
         let expected = has(held, position);

@@ -7,6 +7,7 @@ mod generator;
 mod kinds;
 mod routes;
 mod tally;
+mod texts;
 mod trial;
 
 use conditions::plain::Plain;

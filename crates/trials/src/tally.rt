@@ -44,6 +44,14 @@ pub enum Seen {
     ShortRoutes,
     LongRoutes,
     RowFails,
+    Texts,
+    TextNext,
+    TextFuture,
+    TextAlways,
+    TextUntil,
+    LargeTexts,
+    TextTrue,
+    TextFalse,
     WrongPositions,
     WrongRounds,
     WrongVerdicts,
@@ -52,13 +60,15 @@ pub enum Seen {
     WrongRoutes,
     WrongAnswers,
     WrongSteps,
+    WrongTexts,
+    WrongReadings,
     Refusals,
 }
 
-const KINDS: usize = 49;
+const KINDS: usize = 59;
 
 // What has to be tried, in the order of the summary.
-const TRIED: [(Seen, &str); 40] = [
+const TRIED: [(Seen, &str); 48] = [
     (Seen::PlainNetworks, "networks of plain sets"),
     (Seen::WordNetworks, "networks of word sets"),
     (Seen::NoPlaces, "networks with no places"),
@@ -105,10 +115,18 @@ const TRIED: [(Seen, &str); 40] = [
     (Seen::ShortRoutes, "routes of one position"),
     (Seen::LongRoutes, "routes of three and more positions"),
     (Seen::RowFails, "routes refused with 26"),
+    (Seen::Texts, "texts"),
+    (Seen::TextNext, "texts: AX"),
+    (Seen::TextFuture, "texts: AF"),
+    (Seen::TextAlways, "texts: AG"),
+    (Seen::TextUntil, "texts: A until"),
+    (Seen::LargeTexts, "texts refused for their rows or bytes"),
+    (Seen::TextTrue, "positions where a text is true"),
+    (Seen::TextFalse, "positions where a text is false"),
 ];
 
 // What may not come, in the order of the summary.
-const WRONG: [(Seen, &str); 9] = [
+const WRONG: [(Seen, &str); 11] = [
     (Seen::WrongPositions, "positions that differ"),
     (Seen::WrongRounds, "rounds that differ"),
     (Seen::WrongVerdicts, "verdicts that differ"),
@@ -117,6 +135,8 @@ const WRONG: [(Seen, &str); 9] = [
     (Seen::WrongRoutes, "routes that differ"),
     (Seen::WrongAnswers, "routes shown or refused that differ"),
     (Seen::WrongSteps, "steps written beyond the route"),
+    (Seen::WrongTexts, "positions of texts that differ"),
+    (Seen::WrongReadings, "texts read or refused that differ"),
     (Seen::Refusals, "refusals"),
 ];
 

@@ -9,10 +9,12 @@ use crate::generator::network::draw_network;
 use crate::generator::random::Random;
 use crate::generator::sets::Draw;
 use crate::generator::table::draw_table;
+use crate::generator::text::draw_rule;
 use crate::kinds::count_kinds;
 use crate::routes::compare_routes;
 use crate::tally::Seen;
 use crate::tally::Tally;
+use crate::texts::try_text;
 use conditions::set::ConditionSet;
 use judging::entries::judge_entries;
 use judging::judge::judge;
@@ -25,6 +27,8 @@ use std::alloc::AllocError;
 use std::alloc::Global;
 
 const TABLES: usize = 5;
+
+const TEXTS: usize = 5;
 
 // More than the sets of eight rows at ten places.
 const MAIN: usize = 96;
@@ -60,7 +64,7 @@ fn count_rows(rows: &Vec<Found>, tally: &mut Tally) {
 }
 
 // So many sets, each of all settings.
-fn full_sets<S: ConditionSet>(heap: Global, count: usize) -> Result<Vec<S>, AllocError> {
+pub fn full_sets<S: ConditionSet>(heap: Global, count: usize) -> Result<Vec<S>, AllocError> {
     let mut sets = Vec::new(heap);
     for _ in 0..count {
         sets.push(S::all())?;
@@ -97,7 +101,7 @@ fn try_table<N: Network>(
     compare_routes(heap, net, graph, table, &rows, &mut main, &mut spare, tally)
 }
 
-// Tries a network with drawn tables.
+// Tries a network with drawn tables and texts.
 fn try_tables<N: Network>(
     heap: Global,
     net: &N,
@@ -110,6 +114,10 @@ fn try_tables<N: Network>(
         let table = draw_table(heap, random, net.conditions())?;
         try_table(heap, net, &graph, &table, tally)?;
         tally.add(Seen::Tables, 1);
+    }
+    for _ in 0..TEXTS {
+        let forms = draw_rule(heap, random, net.conditions())?;
+        try_text(heap, net, &graph, &forms, tally)?;
     }
     Ok(())
 }

@@ -1,4 +1,4 @@
-// Some route with p at every position: depth first, to a position with p that rests or that is on a cycle.
+// Some route that keeps to a set: depth first, to a position that rests, that is on a cycle, or that is in a set of ends.
 use crate::explorer::graph::Graph;
 use crate::explorer::graph::has;
 use crate::explorer::graph::put;
@@ -11,9 +11,9 @@ enum State {
     New,
     // On the way from where the walk started to where it is.
     Open,
-    // A route with p at every position begins here.
+    // A route begins here that keeps to the set, or keeps to it until it comes to an end.
     Kept,
-    // Every route from here comes to a position without p.
+    // Every route from here leaves the set.
     Lost,
 }
 
@@ -30,8 +30,14 @@ fn set_state(states: &mut [State], position: usize, state: State) {
 // Looks at the successors of an open position: settles its state, or answers a new one that has to be settled first.
 //
 // A successor that is open closes a cycle.
-fn look(graph: &Graph, p: &[bool], at: usize, states: &mut [State]) -> Option<usize> {
-    let mut state = if graph.rests(at) {
+fn look(
+    graph: &Graph,
+    p: &[bool],
+    ends: &[bool],
+    at: usize,
+    states: &mut [State],
+) -> Option<usize> {
+    let mut state = if graph.rests(at) || has(ends, at) {
         State::Kept
     } else {
         State::Lost
@@ -58,6 +64,7 @@ fn settle(
     heap: Global,
     graph: &Graph,
     p: &[bool],
+    ends: &[bool],
     start: usize,
     states: &mut [State],
 ) -> Result<(), AllocError> {
@@ -69,7 +76,7 @@ fn settle(
         let Some(at) = way.last().copied() else {
             break;
         };
-        match look(graph, p, at, states) {
+        match look(graph, p, ends, at, states) {
             Some(to) => {
                 set_state(states, to, State::Open);
                 way.push(to)?;
@@ -82,14 +89,14 @@ fn settle(
     Ok(())
 }
 
-// The positions from which some route has p at each of its positions.
-pub fn holds_always(heap: Global, graph: &Graph, p: &[bool]) -> Result<Vec<bool>, AllocError> {
+// The positions from which some route has p at each of its positions, or up to one of the ends.
+fn keeps(heap: Global, graph: &Graph, p: &[bool], ends: &[bool]) -> Result<Vec<bool>, AllocError> {
     let mut states = vec![in heap; State::New; graph.size()]?;
     let mut held = vec![in heap; false; graph.size()]?;
     for position in 0..graph.size() {
         if has(p, position) {
             if let State::New = state_of(&states, position) {
-                settle(heap, graph, p, position, &mut states)?;
+                settle(heap, graph, p, ends, position, &mut states)?;
             }
             if let State::Kept = state_of(&states, position) {
                 put(&mut held, position);
@@ -97,4 +104,29 @@ pub fn holds_always(heap: Global, graph: &Graph, p: &[bool]) -> Result<Vec<bool>
         }
     }
     Ok(held)
+}
+
+// The positions from which some route has p at each of its positions.
+pub fn holds_always(heap: Global, graph: &Graph, p: &[bool]) -> Result<Vec<bool>, AllocError> {
+    keeps(heap, graph, p, &[])
+}
+
+// The positions from which some route breaks p until q: q never comes on it, or p is missing before q comes.
+pub fn breaks_until(
+    heap: Global,
+    graph: &Graph,
+    p: &[bool],
+    q: &[bool],
+) -> Result<Vec<bool>, AllocError> {
+    let mut waiting = vec![in heap; false; graph.size()]?;
+    let mut missing = vec![in heap; false; graph.size()]?;
+    for position in 0..graph.size() {
+        if !has(q, position) {
+            put(&mut waiting, position);
+            if !has(p, position) {
+                put(&mut missing, position);
+            }
+        }
+    }
+    keeps(heap, graph, &waiting, &missing)
 }

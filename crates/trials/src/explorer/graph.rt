@@ -94,6 +94,20 @@ impl Graph {
         false
     }
 
+    // Whether some step leads from a position to one that a set does not have.
+    pub fn steps_out_of(&self, from: usize, set: &[bool]) -> bool {
+        for place in 0..self.marks.len() {
+            if self.leads(from, place) {
+                for to in self.number(place, 0)..self.number(place.wrapping_add(1), 0) {
+                    if !has(set, to) {
+                        return true;
+                    }
+                }
+            }
+        }
+        false
+    }
+
     // Whether no step leads from a position.
     pub fn rests(&self, position: usize) -> bool {
         for place in 0..self.marks.len() {

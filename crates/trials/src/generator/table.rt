@@ -21,7 +21,7 @@ fn draw_earlier(random: &mut Random, at: usize) -> u8 {
 }
 
 // A mark: one of the first, or any.
-fn draw_mark(random: &mut Random) -> u8 {
+pub fn draw_mark(random: &mut Random) -> u8 {
     let mask = if random.one_in(4) { 31 } else { 3 };
     (random.word() & mask) as u8
 }
