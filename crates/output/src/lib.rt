@@ -1,4 +1,5 @@
 // Writing bytes and decimal numbers into a list that the caller lends for output.
+#![tactic(auto)]
 ghost use Rattle.std.specs.Prelude.{◌≡◌, ◌≤◌, drop, decimal};
 ghost use Rattle.output.specs.Put.{PutAnswer};
 

@@ -1,6 +1,7 @@
 // Writes the example plans from their records, compares each with its file, and prints its report.
 // Ends with an error where a file differs. It is run in the folder data/, which has the files;
 // `plans --write` makes them anew there.
+#![tactic(auto)]
 mod check;
 mod example;
 mod trial;

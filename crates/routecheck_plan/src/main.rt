@@ -1,4 +1,5 @@
 // Judges the rules of the plan that the command line names.
+#![tactic(auto)]
 use console::run::{Failed, run};
 
 fn main(rt: HostRuntime) -> Result<(), Failed> {

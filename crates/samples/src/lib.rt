@@ -1,4 +1,5 @@
 // The trial networks P and L, with their rules as tables.
+#![tactic(auto)]
 ghost use Rattle.samples.specs.Worked.{WorkedCases};
 
 pub mod networks;

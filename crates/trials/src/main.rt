@@ -1,6 +1,7 @@
 // Judges many drawn networks against drawn rule tables, asks for routes, and compares what judging found and
 // showed with the explorer, explicit over positions. Prints what was tried; ends with an error where
 // anything differs, or where something that was to be tried was not.
+#![tactic(auto)]
 mod comparison;
 mod forms;
 mod kinds;
