@@ -4,6 +4,7 @@
 // bit k is 1 where condition k is on. A set of settings is what a binding carries: the settings
 // under which it forwards.
 #![tactic(auto)]
+
 pub mod plain;
 pub mod set;
 pub mod word;

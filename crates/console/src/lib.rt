@@ -1,5 +1,6 @@
 // The command line of the program: it reads a plan, prints its report, and on demand explains it.
 #![tactic(auto)]
+
 mod breaking;
 mod command;
 mod explain;

@@ -1,6 +1,7 @@
 // Reports damaged and whole plan files whose lines are worked out by hand, and compares.
 // Prints what came; ends with an error where a line differs, or where some refusal never came.
 #![tactic(auto)]
+
 mod case;
 mod cases;
 mod files;

@@ -3,6 +3,7 @@
 //
 // Of the crates that are tried it uses only the network trait, which gives the steps, and the rows.
 #![tactic(auto)]
+
 pub mod always;
 pub mod graph;
 pub mod rounds;

@@ -1,5 +1,6 @@
 // Judging a network against a rule table, and the routes that show a row.
 #![tactic(auto)]
+
 mod always;
 pub mod judge;
 mod next;

@@ -1,5 +1,6 @@
 // Writing bytes and decimal numbers into a list that the caller lends for output.
 #![tactic(auto)]
+
 ghost use Rattle.std.specs.Prelude.{◌≡◌, ◌≤◌, drop, decimal};
 ghost use Rattle.output.specs.Put.{PutAnswer};
 

@@ -4,6 +4,7 @@
 // Shape (the faults of a file, in order), Reading and Writing (what reading and writing come to), Files (what a plan
 // that was read means) and Claims (what holds of the format).
 #![tactic(auto)]
+
 mod bytes;
 pub mod fault;
 mod fields;

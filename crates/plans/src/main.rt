@@ -2,6 +2,7 @@
 // Ends with an error where a file differs. It is run in the folder data/, which has the files;
 // `plans --write` makes them anew there.
 #![tactic(auto)]
+
 mod check;
 mod example;
 mod trial;

@@ -2,6 +2,7 @@
 //
 // specs/Lines has the lines and what they say; Outcomes has the report of a file.
 #![tactic(auto)]
+
 pub mod file;
 mod lines;
 pub mod outcome;

@@ -1,6 +1,7 @@
 // Judges two built-in trial networks of word sets and prints what it found: a line for each rule,
 // and below a rule that breaks the route that shows it.
 #![tactic(auto)]
+
 use conditions::set::ConditionSet;
 use conditions::word::Word;
 use judging::route::route;

@@ -2,6 +2,7 @@
 //
 // specs/ has the meaning: positions, steps and routes (Net, Routes) and rules on them (Rules).
 #![tactic(auto)]
+
 pub mod binding;
 pub mod empty;
 pub mod lent;

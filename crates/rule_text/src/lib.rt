@@ -3,6 +3,7 @@
 // specs/ has the language: Words and Texts (bytes to words), Grammar (words to rules, and which word can follow),
 // Levels, Rows (the table of a rule), Faults, and Reading (what each text comes to).
 #![tactic(auto)]
+
 mod emit;
 pub mod fault;
 pub mod grammar;

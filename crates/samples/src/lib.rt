@@ -1,5 +1,6 @@
 // The trial networks P and L, with their rules as tables.
 #![tactic(auto)]
+
 ghost use Rattle.samples.specs.Worked.{WorkedCases};
 
 pub mod networks;

@@ -1,4 +1,5 @@
 // Rule tables: their rows, and which tables are accepted.
 #![tactic(auto)]
+
 pub mod row;
 pub mod table;

@@ -1,6 +1,7 @@
 // Reads texts, valid and damaged, whose tables and refusals are worked out by hand, and compares.
 // Prints what was read; ends with an error where anything differs, or where some refusal never came.
 #![tactic(auto)]
+
 mod case;
 mod cases;
 mod tally;

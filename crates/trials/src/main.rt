@@ -2,6 +2,7 @@
 // showed with the explorer, explicit over positions. Prints what was tried; ends with an error where
 // anything differs, or where something that was to be tried was not.
 #![tactic(auto)]
+
 mod comparison;
 mod forms;
 mod kinds;

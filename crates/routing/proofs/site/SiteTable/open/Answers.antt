@@ -24,7 +24,7 @@ returns-then-b-marks g c =
     let read : slice_get c.args.records.now c.loop-b.b-index ≡ Some x = slice_get_read _ _ _ x refl c.loop-b-test.true c.b-item.is in
     let n : ℕ = length c.args.marks.now in
     let out : (n ≤ x.from) ⊎ (n ≤ x.to) = elim c.then-b-marks.branch [ then-b-marks-via-then-b-marks w ↦ inl (omega arith) | then-b-marks-via-else-b-marks+then-b-marks-2 w ↦ inr (omega arith) ] in
-    ends_decide c.args.marks.now c.args.records.now false c.if-marks-gt-MOST-PLACES.false c.if-records-gt-MOST-BINDINGS.false
+    ends_decide c.args.marks.now c.args.records.now false c.if-marks-gt-MOST_PLACES.false c.if-records-gt-MOST_BINDINGS.false
     (inside_fails n c.args.records.now c.loop-b.b-index x read out)
 
 pub loop-b-preserved : goal.loop-b-preserved
@@ -45,7 +45,7 @@ invariant-of-result g c = (
 
 pub returns : goal.returns
 returns g c = (
-  ends_decide c.args.marks.now c.args.records.now true c.if-marks-gt-MOST-PLACES.false c.if-records-gt-MOST-BINDINGS.false
+  ends_decide c.args.marks.now c.args.records.now true c.if-marks-gt-MOST_PLACES.false c.if-records-gt-MOST_BINDINGS.false
       (whole _ c.loop-b.b-index c.args.records.now c.loop-b-test.false c.loop-b.invariant),
   refl,
   refl,
