@@ -5,8 +5,8 @@ use Rattle.output.proofs.spell.Goals as goal
 pub loop-rest-init : goal.loop-rest-init
 loop-rest-init c = spelling_none c.args.n c.args.digits.now (omega arith) (omega arith)
 
-pub overflow-sub-first : goal.overflow-sub-first
-overflow-sub-first c = spelling_some _ _ _ _ c.loop-rest.invariant
+pub overflow_sub-first : goal.overflow_sub-first
+overflow_sub-first c = spelling_some _ _ _ _ c.loop-rest.invariant
 
 pub returns-then-rest-lt10 : goal.returns-then-rest-lt10
 returns-then-rest-lt10 c = record {

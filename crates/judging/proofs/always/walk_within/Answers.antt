@@ -42,7 +42,7 @@ returns-in-None g c =
     let seen : List Pos = map as_pos (take k steps) in
     written_front total c.args.steps.now (set steps k at) (k + 1) _ (simp length-set (omega arith))
     (c.loop-count.invariant.0 ∙ ap (λ f. walk_always N X f seen (as_pos at)) fuel
-    ∙ walk_rests N X seen (as_pos at) (places N - k) (from_start at steps k _ c.in-default.ensures) (next_is_none _ (sym c.in-None.is ∙ c.next-into.ensures))
+    ∙ walk_rests N X seen (as_pos at) (places N - k) (from_start at steps k _ c.in-default.ensures) (next_is_none _ (sym c.in-None.is ∙ c.next_into.ensures))
     ∙ ap (λ (ps : List Pos). record { positions = ps; ending = Rests }) (sym (seen_more steps k at inside)))
     (drop-set-lt (k + 1) steps k at (omega arith) ∙ drop_more steps c.args.steps.now k c.loop-count.invariant.1)
 
@@ -53,21 +53,21 @@ loop-count-preserved g c =
     let steps = c.loop-count.steps in
     let k = c.loop-count.count in
     let at = c.loop-count.at in
-    let next = c.in-Some-next-into.next in
+    let next = c.in-Some-next_into.next in
     let inside : k < length steps = (let l = c.loop-count.invariant.2 in omega arith) in
     let fuel : places N + 1 - k ≡ suc (places N - k) = omega arith in
     let less : places N - k ≡ places N + 1 - (k + 1) = omega arith in
     let seen : List Pos = map as_pos (take k steps) in (
       c.loop-count.invariant.0 ∙ ap (λ f. walk_always N X f seen (as_pos at)) fuel
-          ∙ walk_goes_on N X seen (as_pos at) (places N - k) (as_pos next) (from_start at steps k _ c.in-default.ensures) (next_is _ next (sym c.in-Some-next-into.is ∙ c.next-into.ensures))
+          ∙ walk_goes_on N X seen (as_pos at) (places N - k) (as_pos next) (from_start at steps k _ c.in-default.ensures) (next_is _ next (sym c.in-Some-next_into.is ∙ c.next_into.ensures))
           ∙ ap (λ (ps : List Pos). walk_always N X (places N - k) ps (as_pos next)) (sym (seen_more steps k at inside))
           ∙ ap (λ f. walk_always N X f (map as_pos (take (k + 1) (set steps k at))) (as_pos next)) less,
       drop-set-lt (k + 1) steps k at (omega arith) ∙ drop_more steps c.args.steps.now k c.loop-count.invariant.1,
       length-set steps k at ∙ c.loop-count.invariant.2,
     )
 
-pub returns-in-Some-find-step : goal.returns-in-Some-find-step
-returns-in-Some-find-step g c =
+pub returns-in-Some-find_step : goal.returns-in-Some-find_step
+returns-in-Some-find_step g c =
     let N : Net = g.N.Network.meaning c.args.net.now in
     let X = covers g.Set.ConditionSet.holds c.args.sets.now in
     let steps = c.loop-count.steps in
@@ -77,11 +77,11 @@ returns-in-Some-find-step g c =
     let last : k ≡ n + 1 = omega arith in
     written_front _ c.args.steps.now steps (n + 1) _ (let l = c.loop-count.invariant.2 in omega arith)
     (c.loop-count.invariant.0 ∙ ap (λ j. walk_always N X (places N + 1 - k) (map as_pos (take j steps)) (as_pos at)) last
-    ∙ walk_returns N X (map as_pos (take (n + 1) steps)) (as_pos at) _ c.in-Some-find-step.i (from_start at steps (n + 1) _ c.in-Some-find-step.ensures))
+    ∙ walk_returns N X (map as_pos (take (n + 1) steps)) (as_pos at) _ c.in-Some-find_step.i (from_start at steps (n + 1) _ c.in-Some-find_step.ensures))
     (subst (λ (j : ℕ). drop j steps ≡ drop j c.args.steps.now) last c.loop-count.invariant.1)
 
-pub returns-in-None-find-step : goal.returns-in-None-find-step
-returns-in-None-find-step g c =
+pub returns-in-None-find_step : goal.returns-in-None-find_step
+returns-in-None-find_step g c =
     let N : Net = g.N.Network.meaning c.args.net.now in
     let X = covers g.Set.ConditionSet.holds c.args.sets.now in
     let steps = c.loop-count.steps in
@@ -93,5 +93,5 @@ returns-in-None-find-step g c =
     written_front _ c.args.steps.now steps (n + 1) _ (let l = c.loop-count.invariant.2 in omega arith)
     (c.loop-count.invariant.0 ∙ ap (λ j. walk_always N X (places N + 1 - k) (map as_pos (take j steps)) (as_pos at)) last
     ∙ ap (λ f. walk_always N X f (map as_pos (take (n + 1) steps)) (as_pos at)) empty
-    ∙ walk_stops N X (map as_pos (take (n + 1) steps)) (as_pos at) (from_start at steps (n + 1) _ c.in-None-find-step.ensures))
+    ∙ walk_stops N X (map as_pos (take (n + 1) steps)) (as_pos at) (from_start at steps (n + 1) _ c.in-None-find_step.ensures))
     (subst (λ (j : ℕ). drop j steps ≡ drop j c.args.steps.now) last c.loop-count.invariant.1)

@@ -12,8 +12,8 @@ use Rattle.judging.proofs.judge.judge_rows.Goals.{in-Some, in-default}
 pub loop-row-init : goal.loop-row-init
 loop-row-init g c = record { written = λ i l. absurd (omega arith); rest = refl; counted = refl; few = omega arith }
 
-pub judge-row-rounds-requires : goal.judge-row-rounds-requires
-judge-row-rounds-requires g c =
+pub judge_row-rounds-requires : goal.judge_row-rounds-requires
+judge_row-rounds-requires g c =
     let N : Net = g.N.Network.meaning c.args.net.now in
     let K = c.conditions-conditions.result in
     let row = c.loop-row.row in
@@ -29,14 +29,14 @@ judge-row-rounds-requires g c =
       room = (omega arith, omega arith);
     }
 
-pub overflow-add-rounds : goal.overflow-add-rounds
-overflow-add-rounds g c =
+pub overflow_add-rounds : goal.overflow_add-rounds
+overflow_add-rounds g c =
     let N : Net = g.N.Network.meaning c.args.net.now in
     let n : ℕ = places N in
     let few = accepted_few N.conditions c.args.table.now c.requires.taken in
     let ends = part_before c.loop-row.row 32 n (omega arith) in
     let f = (g.N.Network.fits c.args.net.now).few_places in
-    let k = c.judge-row-rounds.ensures.few in
+    let k = c.judge_row-rounds.ensures.few in
     omega arith
 
 pub loop-row-preserved : goal.loop-row-preserved
@@ -47,13 +47,13 @@ loop-row-preserved g c =
     let rows = c.args.table.now in
     let start = c.args.main.now in
     let row = c.loop-row.row in
-    elim c.match-read-row.branch [
+    elim c.match-read_row.branch [
       | in-Some w ↦
-          let k = w.judge-row-rounds.result in
-          let e = w.judge-row-rounds.ensures in
-          subst (λ (xs : List g.row.N-Set.Denot). Sofar holds N rows start xs (row + 1) c.match-read-row.rounds) (sym w.main-is)
-          (subst (λ (m : ℕ). Sofar holds N rows start w.judge-row-rounds.new.main (row + 1) m) (sym w.rounds-is)
-          (sofar_more holds N K rows start c.loop-row.main w.judge-row-rounds.new.main row c.loop-row.rounds k w.in-Some.op c.loop-row-test.true
+          let k = w.judge_row-rounds.result in
+          let e = w.judge_row-rounds.ensures in
+          subst (λ (xs : List g.row.N-Set.Denot). Sofar holds N rows start xs (row + 1) c.match-read_row.rounds) (sym w.main-is)
+          (subst (λ (m : ℕ). Sofar holds N rows start w.judge_row-rounds.new.main (row + 1) m) (sym w.rounds-is)
+          (sofar_more holds N K rows start c.loop-row.main w.judge_row-rounds.new.main row c.loop-row.rounds k w.in-Some.op c.loop-row-test.true
           w.in-Some.ensures.1 w.in-Some.ensures.0 c.loop-row.invariant e.before e.behind e.written e.counted e.few))
       | in-default w ↦
           let fits = accepted_row N.conditions rows c.requires.taken row c.loop-row-test.true in

@@ -4,8 +4,8 @@ use Rattle.std.proofs.lemmas.Bool.Decides.{not_from_Decides}
 use Rattle.judging.proofs.Covers.{covers_at, covers_read, covers_set_same, covers_set_other}
 use Rattle.judging.proofs.rounds.forward.Goals as goal
 
-pub returns-then-is-entered : goal.returns-then-is-entered
-returns-then-is-entered g c = λ x within.
+pub returns-then-is_entered : goal.returns-then-is_entered
+returns-then-is_entered g c = λ x within.
     let holds = g.S.ConditionSet.holds in
     let out = c.args.out.now in
     let sets = c.args.sets.now in
@@ -13,7 +13,7 @@ returns-then-is-entered g c = λ x within.
     let to = c.args.b.now.to in
     let v = c.union.result in
     let old = c.index-out-from.result in
-    let some = c.is-entered.ensures.0 c.if-is-entered.true in
+    let some = c.is_entered.ensures.0 c.if-is_entered.true in
     let reached = covers_read holds sets (record { place = to; setting = some.0 }) c.index-sets-to.result (omega arith) c.index-sets-to.is ∙ some.1 in
     ⊎_elim
     (λ e. let now = covers_set_same holds out from v x (omega arith) e ∙ c.union.ensures x.setting in
@@ -27,14 +27,14 @@ returns-then-is-entered g c = λ x within.
     ))
     (cases_eq x.place from)
 
-pub returns-else-is-entered : goal.returns-else-is-entered
-returns-else-is-entered g c = λ x within.
+pub returns-else-is_entered : goal.returns-else-is_entered
+returns-else-is_entered g c = λ x within.
     let holds = g.S.ConditionSet.holds in
     let sets = c.args.sets.now in
     let to = c.args.b.now.to in (
       λ h. inl h,
       λ h. ⊎_elim (λ k. k)
-          (λ k. absurd (not_from_Decides c.is-entered.result c.is-entered.ensures c.if-is-entered.false
+          (λ k. absurd (not_from_Decides c.is_entered.result c.is_entered.ensures c.if-is_entered.false
           (k.2.0, sym (covers_read holds sets (record { place = to; setting = k.2.0 }) c.index-sets-to.result (omega arith) c.index-sets-to.is) ∙ k.2.1)))
           h,
     )

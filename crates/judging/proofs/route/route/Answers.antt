@@ -20,17 +20,17 @@ use Rattle.judging.proofs.RuleRows.{operation_rule, fits_first, fits_second, rul
 use Rattle.judging.proofs.Same.{same_true_at, chosen_same}
 use Rattle.judging.proofs.route.route.Goals as goal
 
-pub returns-in-default-read-row : goal.returns-in-default-read-row
-returns-in-default-read-row g c =
+pub returns-in-default-read_row : goal.returns-in-default-read_row
+returns-in-default-read_row g c =
     let N : Net = g.N.Network.meaning c.args.net.now in
     let rows = c.args.table.now in
     let row = c.args.row in
     let a = asked N rows row (as_pos c.args.at) (length c.args.main.now) (length c.args.spare.now) (length c.args.steps.now) (sym c.in-default.ensures) in
     let fits = accepted_row N.conditions rows a.taken row a.row_in in
-    absurd (true≢false (sym fits ∙ ap (λ k. row_fits k row (get_or rows row no_row)) (sym c.conditions.ensures.value) ∙ c.in-default-read-row.ensures))
+    absurd (true≢false (sym fits ∙ ap (λ k. row_fits k row (get_or rows row no_row)) (sym c.conditions.ensures.value) ∙ c.in-default-read_row.ensures))
 
-pub holds-at-requires : goal.holds-at-requires
-holds-at-requires g c =
+pub holds_at-requires : goal.holds_at-requires
+holds_at-requires g c =
     let N : Net = g.N.Network.meaning c.args.net.now in
     let rows = c.args.table.now in
     let row = c.args.row in
@@ -40,8 +40,8 @@ holds-at-requires g c =
     let room = a.room in
     record { room = omega arith; inside = a.within.place_in }
 
-pub returns-then-not-holds-at : goal.returns-then-not-holds-at
-returns-then-not-holds-at g c =
+pub returns-then-not-holds_at : goal.returns-then-not-holds_at
+returns-then-not-holds_at g c =
     let holds = g.Set.ConditionSet.holds in
     let N : Net = g.N.Network.meaning c.args.net.now in
     let rows = c.args.table.now in
@@ -49,18 +49,18 @@ returns-then-not-holds-at g c =
     let x : Pos = as_pos c.args.at in
     let none = sym c.in-default.ensures in
     let a = asked N rows row x (length c.args.main.now) (length c.args.spare.now) (length c.args.steps.now) none in
-    let judged = c.in-ok-judge.ensures.1.written row a.row_in x a.within in
-    (refl, inr (none, refl, not_from_Decides _ judged (sym c.holds-at.ensures ∙ c.if-not-holds-at.true)))
+    let judged = c.in_ok-judge.ensures.1.written row a.row_in x a.within in
+    (refl, inr (none, refl, not_from_Decides _ judged (sym c.holds_at.ensures ∙ c.if-not-holds_at.true)))
 
-pub show-row-requires : goal.show-row-requires
-show-row-requires g c =
+pub show_row-requires : goal.show_row-requires
+show_row-requires g c =
     let N : Net = g.N.Network.meaning c.args.net.now in
     let rows = c.args.table.now in
     let row = c.args.row in
     let a = asked N rows row (as_pos c.args.at) (length c.args.main.now) (length c.args.spare.now) (length c.args.steps.now) (sym c.in-default.ensures) in
-    let op = c.in-Some-read-row.op in
+    let op = c.in-Some-read_row.op in
     let K = c.conditions.result in
-    let fit : row_fits K row (coded op) ≡ true = ap (row_fits K row) c.in-Some-read-row.ensures.1 ∙ c.in-Some-read-row.ensures.0 in
+    let fit : row_fits K row (coded op) ≡ true = ap (row_fits K row) c.in-Some-read_row.ensures.1 ∙ c.in-Some-read_row.ensures.0 in
     let ends : row * places N + places N ≤ length rows * places N = part_before row (length rows) (places N) a.row_in in
     let kept = c.judge.auto.main in
     let kept_spare = c.judge.auto.spare in
@@ -82,13 +82,13 @@ returns g c =
     let x : Pos = as_pos c.args.at in
     let none = sym c.in-default.ensures in
     let a = asked N rows row x (length c.args.main.now) (length c.args.spare.now) (length c.args.steps.now) none in
-    let op = c.in-Some-read-row.op in
+    let op = c.in-Some-read_row.op in
     let K = c.conditions.result in
-    let is = c.in-Some-read-row.ensures.1 in
-    let fits = c.in-Some-read-row.ensures.0 in
+    let is = c.in-Some-read_row.ensures.1 in
+    let fits = c.in-Some-read_row.ensures.0 in
     let fit : row_fits K row (coded op) ≡ true = ap (row_fits K row) is ∙ fits in
     let main = c.judge.new.main in
-    let judged = c.in-ok-judge.ensures.1.written in
+    let judged = c.in_ok-judge.ensures.1.written in
     let f : Rule = rule_at rows (coded op).first in
     let h : Rule = rule_at rows (coded op).second in
     let rule_is : rule_at rows row ≡ operation_rule op f h = rule_at_row K rows row op is fits in
@@ -101,9 +101,9 @@ returns g c =
     (λ e. same_true_at N (part (coded op).second) h (judged (coded op).second (fewer _ (fits_second K row op fit e))))
     own
     ∙ ap (λ (k : Rule). chosen N k x) (sym rule_is) in
-    let written : Written (chosen N (rule_at rows row) x) c.args.steps.now c.show-row.new.steps c.show-row.result =
-    subst (λ (k : Chosen). Written k c.args.steps.now c.show-row.new.steps c.show-row.result) choice c.show-row.ensures in
-    let true_here : Means N (rule_at rows row) x = (judged row a.row_in x a.within).0 (sym c.holds-at.ensures ∙ c.if-not-holds-at.false) in
+    let written : Written (chosen N (rule_at rows row) x) c.args.steps.now c.show_row.new.steps c.show_row.result =
+    subst (λ (k : Chosen). Written k c.args.steps.now c.show_row.new.steps c.show_row.result) choice c.show_row.ensures in
+    let true_here : Means N (rule_at rows row) x = (judged row a.row_in x a.within).0 (sym c.holds_at.ensures ∙ c.if-not-holds_at.false) in
     let can : CanShow (rule_at rows row) = subst CanShow (sym rule_is) (can_show op f h (subst (λ (w : Row). 6 ≤ w.operation) (sym is) a.operation)) in
     let right = shown_right N (g.N.Network.fits c.args.net.now) (rule_at rows row) x a.within can true_here in
     (none, written, right.0, subst (Shows N (rule_at rows row) x (chosen N (rule_at rows row) x).positions) (sym written.ended) right.1)

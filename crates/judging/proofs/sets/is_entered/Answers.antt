@@ -12,4 +12,4 @@ picks p (Some m) at = (λ _. (m, picked_in (λ a. p a ≡ true) m at), λ _. ref
 
 pub returns : goal.returns
 returns g c =
-    Decides-at c.is-some.result (is_some c.pick.result) c.is-some.ensures (picks (g.S.ConditionSet.holds c.args.set.now) c.pick.result c.pick.ensures)
+    Decides-at c.is_some.result (is_some c.pick.result) c.is_some.ensures (picks (g.S.ConditionSet.holds c.args.set.now) c.pick.result c.pick.ensures)

@@ -22,7 +22,7 @@ loop-i-preserved g c =
     λ a. c.intersection-narrower.ensures a ∙ ap (λ t. holds old a && t) (c.union.ensures a) in (
       update_more holds f start one other sets i v old p q in_sets in_one in_other c.index-sets-i.is c.index-one-i.is c.index-other-i.is made c.loop-i.invariant.0,
       unchanged_more holds f start one other sets i v old p q in_sets in_one in_other c.index-sets-i.is c.index-one-i.is c.index-other-i.is made c.loop-i.invariant.0
-          c.loop-i.settled c.same-members-settled.result c.loop-i.invariant.1 c.same-members-settled.ensures,
+          c.loop-i.settled c.same_members-settled.result c.loop-i.invariant.1 c.same_members-settled.ensures,
     )
 
 pub returns : goal.returns

@@ -26,7 +26,7 @@ returns-then-next-at g c =
     let at = c.args.at in
     let next = c.in-Some.next in
     written_front _ steps (set steps 0 at) 1 (Returns 0) (simp length-set (omega arith))
-    (ap (chosen_next (as_pos at)) (next_is _ next (sym c.in-Some.is ∙ c.next-into.ensures)) ∙ cond-true _ _ _ c.if-next-at.true
+    (ap (chosen_next (as_pos at)) (next_is _ next (sym c.in-Some.is ∙ c.next_into.ensures)) ∙ cond-true _ _ _ c.if-next-at.true
     ∙ ap (λ (ps : List Pos). record { positions = ps; ending = Returns 0 }) (one_seen steps at c.requires.room))
     (drop-set-lt 1 steps 0 at (omega arith))
 
@@ -37,7 +37,7 @@ returns-else-next-at g c =
     let at = c.args.at in
     let next = c.in-Some.next in
     written_front _ steps (set (set steps 0 at) 1 next) 2 Reaches (simp length-set (omega arith))
-    (ap (chosen_next (as_pos at)) (next_is _ next (sym c.in-Some.is ∙ c.next-into.ensures)) ∙ cond-false _ _ _ c.if-next-at.false
+    (ap (chosen_next (as_pos at)) (next_is _ next (sym c.in-Some.is ∙ c.next_into.ensures)) ∙ cond-false _ _ _ c.if-next-at.false
     ∙ ap (λ (ps : List Pos). record { positions = ps; ending = Reaches }) (two_seen steps at next c.requires.room))
     (drop-set-lt 2 (set steps 0 at) 1 next (omega arith) ∙ drop-set-lt 2 steps 0 at (omega arith))
 
@@ -47,6 +47,6 @@ returns-in-None g c =
     let steps = c.args.steps.now in
     let at = c.args.at in
     written_front _ steps (set steps 0 at) 1 Rests (simp length-set (omega arith))
-    (ap (chosen_next (as_pos at)) (next_is_none _ (sym c.in-None.is ∙ c.next-into.ensures))
+    (ap (chosen_next (as_pos at)) (next_is_none _ (sym c.in-None.is ∙ c.next_into.ensures))
     ∙ ap (λ (ps : List Pos). record { positions = ps; ending = Rests }) (one_seen steps at c.requires.room))
     (drop-set-lt 1 steps 0 at (omega arith))

@@ -13,8 +13,8 @@ use Rattle.judging.specs.Steps.{as_pos, chosen_by, Written}
 use Rattle.judging.proofs.Operands.{part_before, part_long}
 use Rattle.judging.proofs.showing.show_row.Goals as goal
 
-pub part-of-requires : goal.part-of-requires
-part-of-requires g c =
+pub part_of-requires : goal.part_of-requires
+part_of-requires g c =
     let n = c.places-n.result in
     let row = c.args.row in
     let room : row * n + n ≤ length c.args.main.now = subst (λ (m : ℕ). row * m + m ≤ length c.args.main.now) (sym c.places-n.ensures.value) c.requires.room.0 in
@@ -22,8 +22,8 @@ part-of-requires g c =
     let b = part_before c.in-Next.p row n first in
     omega arith
 
-pub show-next-requires : goal.show-next-requires
-show-next-requires g c =
+pub show_next-requires : goal.show_next-requires
+show_next-requires g c =
     let n = c.places-n.result in
     let row = c.args.row in
     let room : row * n + n ≤ length c.args.main.now = subst (λ (m : ℕ). row * m + m ≤ length c.args.main.now) (sym c.places-n.ensures.value) c.requires.room.0 in
@@ -31,10 +31,10 @@ show-next-requires g c =
     let b = part_before c.in-Next.p row n first in
     let inside = c.requires.inside.place_in in
     let steps = c.requires.room.1.1 in
-    record { over = c.requires.over; long = ap length c.part-of.ensures ∙ part_long n c.in-Next.p c.args.main.now (omega arith) ∙ c.places-n.ensures.value; room = omega arith }
+    record { over = c.requires.over; long = ap length c.part_of.ensures ∙ part_long n c.in-Next.p c.args.main.now (omega arith) ∙ c.places-n.ensures.value; room = omega arith }
 
-pub show-until-requires : goal.show-until-requires
-show-until-requires g c =
+pub show_until-requires : goal.show_until-requires
+show_until-requires g c =
     let row = c.args.row in
     record {
       over = c.requires.over;
@@ -46,12 +46,12 @@ show-until-requires g c =
       room = c.requires.room;
     }
 
-pub walk-within-requires : goal.walk-within-requires
-walk-within-requires g c =
+pub walk_within-requires : goal.walk_within-requires
+walk_within-requires g c =
     let n = c.places-n.result in
     let row = c.args.row in
     let room : row * n + n ≤ length c.args.main.now = subst (λ (m : ℕ). row * m + m ≤ length c.args.main.now) (sym c.places-n.ensures.value) c.requires.room.0 in
-    record { over = c.requires.over; long = ap length c.part-of-in-Always.ensures ∙ part_long n row c.args.main.now room ∙ c.places-n.ensures.value; room = c.requires.room.1.1 }
+    record { over = c.requires.over; long = ap length c.part_of-in-Always.ensures ∙ part_long n row c.args.main.now room ∙ c.places-n.ensures.value; room = c.requires.room.1.1 }
 
 pub returns-in-Next : goal.returns-in-Next
 returns-in-Next g c =
@@ -59,10 +59,10 @@ returns-in-Next g c =
     let N : Net = g.N.Network.meaning c.args.net.now in
     let main = c.args.main.now in
     let x : Pos = as_pos c.args.at in
-    let W : Chosen → Type 0 = λ k. Written k c.args.steps.now c.show-next.new.steps c.show-next.result in
+    let W : Chosen → Type 0 = λ k. Written k c.args.steps.now c.show_next.new.steps c.show_next.result in
     let part : W (chosen_next x (next_in N (covers holds (row_part (places N) c.in-Next.p main)) x)) =
     subst (λ (m : ℕ). W (chosen_next x (next_in N (covers holds (row_part m c.in-Next.p main)) x))) c.places-n.ensures.value
-    (subst (λ (xs : List g.row.N-Set.Denot). W (chosen_next x (next_in N (covers holds xs) x))) c.part-of.ensures c.show-next.ensures) in
+    (subst (λ (xs : List g.row.N-Set.Denot). W (chosen_next x (next_in N (covers holds xs) x))) c.part_of.ensures c.show_next.ensures) in
     subst (λ (o : Operation). W (chosen_by N o (covers holds (row_part (places N) (coded o).first main)) (covers holds (row_part (places N) (coded o).second main)) (covers holds (row_part (places N) c.args.row main)) x)) (sym c.in-Next.is) part
 
 pub returns-in-Until : goal.returns-in-Until
@@ -71,8 +71,8 @@ returns-in-Until g c =
     let N : Net = g.N.Network.meaning c.args.net.now in
     let main = c.args.main.now in
     let x : Pos = as_pos c.args.at in
-    let W : Chosen → Type 0 = λ k. Written k c.args.steps.now c.show-until.new.steps c.show-until.result in
-    subst (λ (o : Operation). W (chosen_by N o (covers holds (row_part (places N) (coded o).first main)) (covers holds (row_part (places N) (coded o).second main)) (covers holds (row_part (places N) c.args.row main)) x)) (sym c.in-Until.is) c.show-until.ensures
+    let W : Chosen → Type 0 = λ k. Written k c.args.steps.now c.show_until.new.steps c.show_until.result in
+    subst (λ (o : Operation). W (chosen_by N o (covers holds (row_part (places N) (coded o).first main)) (covers holds (row_part (places N) (coded o).second main)) (covers holds (row_part (places N) c.args.row main)) x)) (sym c.in-Until.is) c.show_until.ensures
 
 pub returns-in-Always : goal.returns-in-Always
 returns-in-Always g c =
@@ -80,10 +80,10 @@ returns-in-Always g c =
     let N : Net = g.N.Network.meaning c.args.net.now in
     let main = c.args.main.now in
     let x : Pos = as_pos c.args.at in
-    let W : Chosen → Type 0 = λ k. Written k c.args.steps.now c.walk-within.new.steps c.walk-within.result in
+    let W : Chosen → Type 0 = λ k. Written k c.args.steps.now c.walk_within.new.steps c.walk_within.result in
     let part : W (walk_always N (covers holds (row_part (places N) c.args.row main)) (places N + 1) [] x) =
     subst (λ (m : ℕ). W (walk_always N (covers holds (row_part m c.args.row main)) (places N + 1) [] x)) c.places-n.ensures.value
-    (subst (λ (xs : List g.row.N-Set.Denot). W (walk_always N (covers holds xs) (places N + 1) [] x)) c.part-of-in-Always.ensures c.walk-within.ensures) in
+    (subst (λ (xs : List g.row.N-Set.Denot). W (walk_always N (covers holds xs) (places N + 1) [] x)) c.part_of-in-Always.ensures c.walk_within.ensures) in
     subst (λ (o : Operation). W (chosen_by N o (covers holds (row_part (places N) (coded o).first main)) (covers holds (row_part (places N) (coded o).second main)) (covers holds (row_part (places N) c.args.row main)) x)) (sym c.in-Always.is) part
 
 -- Rows of other operations are not shown.

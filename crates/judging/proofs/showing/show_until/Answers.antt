@@ -6,24 +6,24 @@ use Rattle.judging.specs.Steps.{as_pos, Written}
 use Rattle.judging.proofs.Operands.{part_before}
 use Rattle.judging.proofs.showing.show_until.Goals as goal
 
-pub copy-operand-requires : goal.copy-operand-requires
-copy-operand-requires g c =
+pub copy_operand-requires : goal.copy_operand-requires
+copy_operand-requires g c =
     let n = c.places-n.result in
     let room : c.args.row * n + n ≤ length c.args.main.now = subst (λ (m : ℕ). c.args.row * m + m ≤ length c.args.main.now) (sym c.places-n.ensures.value) c.requires.room.0 in
-    record { long = c.split-at-mut-first.ensures.front-len; within = let b = part_before c.args.p c.args.row n c.requires.earlier.0 in omega arith }
+    record { long = c.split_at_mut-first.ensures.front-len; within = let b = part_before c.args.p c.args.row n c.requires.earlier.0 in omega arith }
 
-pub copy-operand-requires-2 : goal.copy-operand-requires-2
-copy-operand-requires-2 g c =
+pub copy_operand-requires-2 : goal.copy_operand-requires-2
+copy_operand-requires-2 g c =
     let n = c.places-n.result in
     let room : c.args.row * n + n ≤ length c.args.main.now = subst (λ (m : ℕ). c.args.row * m + m ≤ length c.args.main.now) (sym c.places-n.ensures.value) c.requires.room.0 in
     record { long = simp length-take (omega arith); within = let b = part_before c.args.q c.args.row n c.requires.earlier.1 in omega arith }
 
-pub walk-until-requires : goal.walk-until-requires
-walk-until-requires g c =
+pub walk_until-requires : goal.walk_until-requires
+walk_until-requires g c =
     let v = c.places-n.ensures.value in
-    let second : length c.copy-operand-2.new.half ≡ c.places-n.result = c.copy-operand-2.auto.half ∙ simp length-take (omega arith) in
-    let first : length c.copy-operand.new.half ≡ c.places-n.result = c.copy-operand.auto.half ∙ c.split-at-mut-first.ensures.front-len in
-    let part : length c.copy-from-slice.new.self ≡ c.places-n.result = ap length c.copy-from-slice.ensures.after ∙ second in
+    let second : length c.copy_operand-2.new.half ≡ c.places-n.result = c.copy_operand-2.auto.half ∙ simp length-take (omega arith) in
+    let first : length c.copy_operand.new.half ≡ c.places-n.result = c.copy_operand.auto.half ∙ c.split_at_mut-first.ensures.front-len in
+    let part : length c.copy_from_slice.new.self ≡ c.places-n.result = ap length c.copy_from_slice.ensures.after ∙ second in
     record { over = c.requires.over; lengths = (part ∙ v, (first ∙ v, second ∙ v)); inside = c.requires.inside; room = c.requires.room.1.1 }
 
 pub returns : goal.returns
@@ -32,8 +32,8 @@ returns g c =
     let N : Net = g.N.Network.meaning c.args.net.now in
     let main = c.args.main.now in
     let x : Pos = as_pos c.args.at in
-    let W : List g.row.N-Set.Denot → List g.row.N-Set.Denot → Type 0 = λ f s. Written (chosen_until N (covers holds f) (covers holds s) x) c.args.steps.now c.walk-until.new.steps c.walk-until.result in
+    let W : List g.row.N-Set.Denot → List g.row.N-Set.Denot → Type 0 = λ f s. Written (chosen_until N (covers holds f) (covers holds s) x) c.args.steps.now c.walk_until.new.steps c.walk_until.result in
     let one : W (row_part c.places-n.result c.args.p main) (row_part c.places-n.result c.args.q main) =
-    subst (λ (s : List g.row.N-Set.Denot). W (row_part c.places-n.result c.args.p main) s) (c.copy-from-slice.ensures.after ∙ c.copy-operand-2.ensures)
-    (subst (λ (f : List g.row.N-Set.Denot). W f c.copy-from-slice.new.self) c.copy-operand.ensures c.walk-until.ensures) in
+    subst (λ (s : List g.row.N-Set.Denot). W (row_part c.places-n.result c.args.p main) s) (c.copy_from_slice.ensures.after ∙ c.copy_operand-2.ensures)
+    (subst (λ (f : List g.row.N-Set.Denot). W f c.copy_from_slice.new.self) c.copy_operand.ensures c.walk_until.ensures) in
     subst (λ (m : ℕ). W (row_part m c.args.p main) (row_part m c.args.q main)) c.places-n.ensures.value one

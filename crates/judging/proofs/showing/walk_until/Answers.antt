@@ -12,8 +12,8 @@ use Rattle.judging.proofs.Choices.{least_out}
 use Rattle.judging.proofs.Hops.{until_some, until_none, noted_walk}
 use Rattle.judging.proofs.showing.walk_until.Goals as goal
 
-pub note-rounds-requires : goal.note-rounds-requires
-note-rounds-requires g c =
+pub note_rounds-requires : goal.note_rounds-requires
+note_rounds-requires g c =
     let few = (g.N.Network.fits c.args.net.now).few_places in
     record {
       over = c.requires.over;
@@ -23,12 +23,12 @@ note-rounds-requires g c =
       fresh = λ t l. get_or-replicate 256 t never 0 (omega arith);
     }
 
-pub walk-down-requires : goal.walk-down-requires
-walk-down-requires g c =
+pub walk_down-requires : goal.walk_down-requires
+walk_down-requires g c =
     let few = (g.N.Network.fits c.args.net.now).few_places in
     let d = (least_out (suc (places (g.N.Network.meaning c.args.net.now))) _ c.in-Some.hops (sym c.in-Some.ensures.hops)).0 in
-    let r = c.note-rounds.auto.rounds in
-    let s = c.note-rounds.auto.settings in
+    let r = c.note_rounds.auto.rounds in
+    let s = c.note_rounds.auto.settings in
     record { room = (omega arith, omega arith); list = omega arith }
 
 pub returns-in-Some : goal.returns-in-Some
@@ -43,7 +43,7 @@ returns-in-Some g c =
     let is = until_some N p q x d c.in-Some.ensures.hops
     ∙ ap (λ (ps : List Pos). record { positions = ps; ending = Reaches })
     (sym (noted_walk N p q (g.N.Network.fits c.args.net.now) d _ _ c.in-Some.ensures.notes d (omega arith) x o.1 (λ e s. o.2 e (omega arith)))) in
-    subst (λ (k : Chosen). Written k c.args.steps.now c.walk-down.new.steps c.walk-down.result) (sym is) c.walk-down.ensures
+    subst (λ (k : Chosen). Written k c.args.steps.now c.walk_down.new.steps c.walk_down.result) (sym is) c.walk_down.ensures
 
 pub returns-in-None : goal.returns-in-None
 returns-in-None g c =

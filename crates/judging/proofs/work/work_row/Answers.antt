@@ -38,10 +38,10 @@ returns-in-Mark g c =
     let Q : Pos → Type 0 = Is (covers holds c.args.second.now) in
     let op = c.args.op in
     let in_part : (x : Pos) → Within N x → x.place < length c.args.part.now = λ x w. (let l = w.place_in in omega arith) in
-    let b = covers holds c.write-mark.new.part in
+    let b = covers holds c.write_mark.new.part in
     record {
       few = (omega arith);
-      written = named_shape N b P Q op _ c.in-Mark.is (λ x w. Decides-at (b x) (bit (get_or N.marks x.place 0) c.in-Mark.k) (c.write-mark.ensures x (in_part x w) ∙ guard_behind _ _ (lt-ltb x.setting (2 ^ K) (setting_below N K c.requires.over x w))) (λ e. e, λ e. e));
+      written = named_shape N b P Q op _ c.in-Mark.is (λ x w. Decides-at (b x) (bit (get_or N.marks x.place 0) c.in-Mark.k) (c.write_mark.ensures x (in_part x w) ∙ guard_behind _ _ (lt-ltb x.setting (2 ^ K) (setting_below N K c.requires.over x w))) (λ e. e, λ e. e));
       counted = named_rounds N P Q op _ 0 c.in-Mark.is refl;
     }
 
@@ -54,10 +54,10 @@ returns-in-Condition g c =
     let Q : Pos → Type 0 = Is (covers holds c.args.second.now) in
     let op = c.args.op in
     let in_part : (x : Pos) → Within N x → x.place < length c.args.part.now = λ x w. (let l = w.place_in in omega arith) in
-    let b = covers holds c.write-condition.new.part in
+    let b = covers holds c.write_condition.new.part in
     record {
       few = (omega arith);
-      written = named_shape N b P Q op _ c.in-Condition.is (λ x w. Decides-at (b x) (bit x.setting c.in-Condition.k) (c.write-condition.ensures x (in_part x w) (setting_below N K c.requires.over x w)) (λ e. e, λ e. e));
+      written = named_shape N b P Q op _ c.in-Condition.is (λ x w. Decides-at (b x) (bit x.setting c.in-Condition.k) (c.write_condition.ensures x (in_part x w) (setting_below N K c.requires.over x w)) (λ e. e, λ e. e));
       counted = named_rounds N P Q op _ 0 c.in-Condition.is refl;
     }
 
@@ -70,12 +70,12 @@ returns-in-Not g c =
     let Q : Pos → Type 0 = Is (covers holds c.args.second.now) in
     let op = c.args.op in
     let in_part : (x : Pos) → Within N x → x.place < length c.args.part.now = λ x w. (let l = w.place_in in omega arith) in
-    let b = covers holds c.complement-all.new.sets in
+    let b = covers holds c.complement_all.new.sets in
     let p = covers holds c.args.first.now in
     let made : (x : Pos) → Within N x → b x ≡ not (p x) = λ x w.
-    c.complement-all.ensures x (let l = w.place_in in omega arith)
+    c.complement_all.ensures x (let l = w.place_in in omega arith)
     ∙ guard_true _ _ (lt-ltb x.setting (2 ^ K) (setting_below N K c.requires.over x w))
-    ∙ ap (λ (xs : List g.row.N-Set.Denot). not (covers holds xs x)) c.copy-from-slice.ensures.after in
+    ∙ ap (λ (xs : List g.row.N-Set.Denot). not (covers holds xs x)) c.copy_from_slice.ensures.after in
     record {
       few = (omega arith);
       written = named_shape N b P Q op _ c.in-Not.is (λ x w. Decides-at (b x) (not (p x)) (made x w) (Decides-not (p x) (self N p x w)));
@@ -96,8 +96,8 @@ returns-in-And g c =
     let q = covers holds c.args.second.now in
     let made : (x : Pos) → Within N x → b x ≡ (p x && q x) = λ x w.
     c.shrink.ensures.after x (let l = w.place_in in omega arith)
-    ∙ ap (λ t. covers holds c.copy-from-slice-in-And.new.self x && t) (or_same (q x))
-    ∙ ap (λ (xs : List g.row.N-Set.Denot). covers holds xs x && q x) c.copy-from-slice-in-And.ensures.after in
+    ∙ ap (λ t. covers holds c.copy_from_slice-in-And.new.self x && t) (or_same (q x))
+    ∙ ap (λ (xs : List g.row.N-Set.Denot). covers holds xs x && q x) c.copy_from_slice-in-And.ensures.after in
     record {
       few = (omega arith);
       written = named_shape N b P Q op _ c.in-And.is (λ x w. Decides-at (b x) (p x && q x) (made x w) (Decides-and (p x) (q x) (self N p x w) (self N q x w)));
@@ -118,8 +118,8 @@ returns-in-Or g c =
     let q = covers holds c.args.second.now in
     let made : (x : Pos) → Within N x → b x ≡ (p x || q x) = λ x w.
     c.grow.ensures.after x (let l = w.place_in in omega arith)
-    ∙ ap (λ t. covers holds c.copy-from-slice-in-Or.new.self x || t) (and_same (q x))
-    ∙ ap (λ (xs : List g.row.N-Set.Denot). covers holds xs x || q x) c.copy-from-slice-in-Or.ensures.after in
+    ∙ ap (λ t. covers holds c.copy_from_slice-in-Or.new.self x || t) (and_same (q x))
+    ∙ ap (λ (xs : List g.row.N-Set.Denot). covers holds xs x || q x) c.copy_from_slice-in-Or.ensures.after in
     record {
       few = (omega arith);
       written = named_shape N b P Q op _ c.in-Or.is (λ x w. Decides-at (b x) (p x || q x) (made x w) (Decides-or (p x) (q x) (self N p x w) (self N q x w)));
@@ -151,16 +151,16 @@ returns-in-Until g c =
     let Q : Pos → Type 0 = Is (covers holds c.args.second.now) in
     let op = c.args.op in
     let in_part : (x : Pos) → Within N x → x.place < length c.args.part.now = λ x w. (let l = w.place_in in omega arith) in
-    let b = covers holds c.until-rounds.new.part in
-    let k = c.until-rounds.result in
+    let b = covers holds c.until_rounds.new.part in
+    let k = c.until_rounds.result in
     let p = covers holds c.args.first.now in
     let q = covers holds c.args.second.now in
     let start : (xs : List g.row.N-Set.Denot) → Type 0 = λ xs. LeastStable N (Grown N P (Is (covers holds xs))) k in
-    let least : LeastStable N (Grown N P Q) k = subst start c.copy-from-slice-in-Until.ensures.after c.until-rounds.ensures.least in
+    let least : LeastStable N (Grown N P Q) k = subst start c.copy_from_slice-in-Until.ensures.after c.until_rounds.ensures.least in
     let has : Decided N b (Grown N P Q k) =
-    subst (λ (xs : List g.row.N-Set.Denot). Decided N b (Grown N P (Is (covers holds xs)) k)) c.copy-from-slice-in-Until.ensures.after c.until-rounds.ensures.after in
+    subst (λ (xs : List g.row.N-Set.Denot). Decided N b (Grown N P (Is (covers holds xs)) k)) c.copy_from_slice-in-Until.ensures.after c.until_rounds.ensures.after in
     record {
-      few = c.until-rounds.ensures.few;
+      few = c.until_rounds.ensures.few;
       written = named_shape N b P Q op _ c.in-Until.is (decided_like N b (Grown N P Q k) _ (until_exact N p q P Q (self N p) (self N q) k least.stable) has);
       counted = named_rounds N P Q op _ k c.in-Until.is least;
     }
@@ -174,15 +174,15 @@ returns-in-Always g c =
     let Q : Pos → Type 0 = Is (covers holds c.args.second.now) in
     let op = c.args.op in
     let in_part : (x : Pos) → Within N x → x.place < length c.args.part.now = λ x w. (let l = w.place_in in omega arith) in
-    let b = covers holds c.always-rounds.new.part in
-    let k = c.always-rounds.result in
+    let b = covers holds c.always_rounds.new.part in
+    let k = c.always_rounds.result in
     let p = covers holds c.args.first.now in
     let start : (xs : List g.row.N-Set.Denot) → Type 0 = λ xs. LeastStable N (Kept N (Is (covers holds xs))) k in
-    let least : LeastStable N (Kept N P) k = subst start c.copy-from-slice-in-Always.ensures.after c.always-rounds.ensures.least in
+    let least : LeastStable N (Kept N P) k = subst start c.copy_from_slice-in-Always.ensures.after c.always_rounds.ensures.least in
     let has : Decided N b (Kept N P k) =
-    subst (λ (xs : List g.row.N-Set.Denot). Decided N b (Kept N (Is (covers holds xs)) k)) c.copy-from-slice-in-Always.ensures.after c.always-rounds.ensures.after in
+    subst (λ (xs : List g.row.N-Set.Denot). Decided N b (Kept N (Is (covers holds xs)) k)) c.copy_from_slice-in-Always.ensures.after c.always_rounds.ensures.after in
     record {
-      few = c.always-rounds.ensures.few;
+      few = c.always_rounds.ensures.few;
       written = named_shape N b P Q op _ c.in-Always.is (decided_like N b (Kept N P k) _ (always_exact N p P (self N p) k least.stable) has);
       counted = named_rounds N P Q op _ k c.in-Always.is least;
     }

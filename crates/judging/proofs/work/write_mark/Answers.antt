@@ -3,22 +3,22 @@ use Rattle.std.proofs.lemmas.Bool.{cases_eq}
 use Rattle.conditions.specs.Sets.{bit}
 use Rattle.judging.proofs.Covers.{covers_set_same, covers_set_other}
 use Rattle.judging.proofs.work.write_mark.Goals as goal
-use Rattle.judging.proofs.work.write_mark.Goals.{then-has-mark, else-has-mark}
+use Rattle.judging.proofs.work.write_mark.Goals.{then-has_mark, else-has_mark}
 
 pub loop-i-preserved : goal.loop-i-preserved
 loop-i-preserved g c = λ x below.
     let holds = g.Set.ConditionSet.holds in
     let part = c.loop-i.part in
     let i = c.loop-i.i in
-    let v = c.if-has-mark.part in
+    let v = c.if-has_mark.part in
     let marks : ℕ → Bool = λ s. bit (get_or (g.N.Network.meaning c.args.net.now).marks s 0) c.args.k in
     let inside : Bool = ltb x.setting (2 ^ g.Set.ConditionSet.count) in
     let made : holds v x.setting ≡ (marks i && inside) =
-    elim c.if-has-mark.branch [
-      | then-has-mark w ↦
-          ap (λ s. holds s x.setting) w.part-is ∙ c.all-all.ensures x.setting ∙ ap (λ t. t && inside) (sym w.if-has-mark.true ∙ c.has-mark.ensures)
-      | else-has-mark w ↦
-          ap (λ s. holds s x.setting) w.part-is ∙ c.none-none.ensures x.setting ∙ ap (λ t. t && inside) (sym w.if-has-mark.false ∙ c.has-mark.ensures)
+    elim c.if-has_mark.branch [
+      | then-has_mark w ↦
+          ap (λ s. holds s x.setting) w.part-is ∙ c.all-all.ensures x.setting ∙ ap (λ t. t && inside) (sym w.if-has_mark.true ∙ c.has_mark.ensures)
+      | else-has_mark w ↦
+          ap (λ s. holds s x.setting) w.part-is ∙ c.none-none.ensures x.setting ∙ ap (λ t. t && inside) (sym w.if-has_mark.false ∙ c.has_mark.ensures)
     ] in
     ⊎_elim
     (λ e. covers_set_same holds part i v x (omega arith) e ∙ made ∙ ap (λ s. marks s && inside) (sym e))

@@ -9,4 +9,4 @@ returns c =
     let byte0 = field_first 1 i file (omega arith) in
     let byte1 = field_from 0 i 1 file (omega arith) in
     let end = field_none (i + 2) file in
-    omega (arith, c.from-le-bytes.ensures)
+    omega (arith, c.from_le_bytes.ensures)

@@ -11,4 +11,4 @@ returns c =
     let byte2 = field_from 1 i 2 file (omega arith) in
     let byte3 = field_from 0 i 3 file (omega arith) in
     let end = field_none (i + 4) file in
-    omega (arith, c.from-le-bytes.ensures)
+    omega (arith, c.from_le_bytes.ensures)

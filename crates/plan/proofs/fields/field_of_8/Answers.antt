@@ -15,4 +15,4 @@ returns c =
     let byte6 = field_from 1 i 6 file (omega arith) in
     let byte7 = field_from 0 i 7 file (omega arith) in
     let end = field_none (i + 8) file in
-    omega (arith, c.from-le-bytes.ensures)
+    omega (arith, c.from_le_bytes.ensures)

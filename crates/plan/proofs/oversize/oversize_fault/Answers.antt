@@ -6,4 +6,4 @@ pub returns : goal.returns
 returns c =
     let sum = c.in-Some.ensures in
     let all : c.in-Some.total ≡ length c.args.front.now + c.args.behind = sum.1 in
-    front_tells c.args.front.now c.args.behind c.in-Some.total c.shape-fault.result (omega arith) (omega arith) (omega arith) (omega arith) all c.shape-fault.ensures
+    front_tells c.args.front.now c.args.behind c.in-Some.total c.shape_fault.result (omega arith) (omega arith) (omega arith) (omega arith) all c.shape_fault.ensures

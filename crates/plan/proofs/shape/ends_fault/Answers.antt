@@ -9,19 +9,19 @@ loop-binding-init c =
     let n : binding_count c.args.file.now ≡ binding_count c.args.file.now - 0 = omega arith in
     (omega arith, ap (ends_fault c.args.file.now 0) n)
 
-pub returns-then-is-some : goal.returns-then-is-some
-returns-then-is-some c =
+pub returns-then-is_some : goal.returns-then-is_some
+returns-then-is_some c =
     sym
     (c.loop-binding.invariant.1
-    ∙ ends_stop c.args.file.now c.loop-binding.binding (binding_count c.args.file.now) c.loop-binding.byte c.binding-fault-fault.result
-    (omega arith) c.loop-binding.invariant.0 c.binding-fault-fault.ensures (sym c.is-some.ensures ∙ c.if-is-some.true))
+    ∙ ends_stop c.args.file.now c.loop-binding.binding (binding_count c.args.file.now) c.loop-binding.byte c.binding_fault-fault.result
+    (omega arith) c.loop-binding.invariant.0 c.binding_fault-fault.ensures (sym c.is_some.ensures ∙ c.if-is_some.true))
 
 pub loop-binding-preserved : goal.loop-binding-preserved
 loop-binding-preserved c = (
   omega arith,
   c.loop-binding.invariant.1
-      ∙ ends_go c.args.file.now c.loop-binding.binding (binding_count c.args.file.now) c.loop-binding.byte c.binding-fault-fault.result
-      (omega arith) c.loop-binding.invariant.0 c.binding-fault-fault.ensures (sym c.is-some.ensures ∙ c.if-is-some.false),
+      ∙ ends_go c.args.file.now c.loop-binding.binding (binding_count c.args.file.now) c.loop-binding.byte c.binding_fault-fault.result
+      (omega arith) c.loop-binding.invariant.0 c.binding_fault-fault.ensures (sym c.is_some.ensures ∙ c.if-is_some.false),
 )
 
 pub returns : goal.returns

@@ -16,26 +16,26 @@ loop-rule-init c =
     let n : rule_count c.args.file.now ≡ rule_count c.args.file.now - 0 = omega arith in
     (omega arith, omega arith, ap (lengths_fault c.args.total c.args.file.now 0) n)
 
-pub returns-then-is-some : goal.returns-then-is-some
-returns-then-is-some c =
+pub returns-then-is_some : goal.returns-then-is_some
+returns-then-is_some c =
     let file = c.args.file.now in
-    let some = sym c.is-some.ensures ∙ c.if-is-some.true in
+    let some = sym c.is_some.ensures ∙ c.if-is_some.true in
     let stops = c.loop-rule.invariant.2
-    ∙ lengths_stop c.args.total file c.loop-rule.rule (rule_count file) c.loop-rule.byte c.length-fault-fault.result
-    (omega arith) c.loop-rule.invariant.0 c.length-fault-fault.ensures some in
-    sym (ap (λ (o : Option FileFault). option_or o (option_or (end_fault c.args.total file) None)) stops ∙ or_some c.length-fault-fault.result _ some)
+    ∙ lengths_stop c.args.total file c.loop-rule.rule (rule_count file) c.loop-rule.byte c.length_fault-fault.result
+    (omega arith) c.loop-rule.invariant.0 c.length_fault-fault.ensures some in
+    sym (ap (λ (o : Option FileFault). option_or o (option_or (end_fault c.args.total file) None)) stops ∙ or_some c.length_fault-fault.result _ some)
 
 pub loop-rule-preserved : goal.loop-rule-preserved
 loop-rule-preserved c =
     let file = c.args.file.now in
-    let none = sym c.is-some.ensures ∙ c.if-is-some.false in
-    let fits = length_at_none c.args.total c.loop-rule.byte file (sym c.length-fault-fault.ensures ∙ none_of c.length-fault-fault.result none) in
+    let none = sym c.is_some.ensures ∙ c.if-is_some.false in
+    let fits = length_at_none c.args.total c.loop-rule.byte file (sym c.length_fault-fault.ensures ∙ none_of c.length_fault-fault.result none) in
     let short = fits.1 in (
-      rule_byte_next file c.loop-rule.rule c.loop-rule.byte c.field-of-2-in-loop-rule.result c.loop-rule.invariant.0 c.field-of-2-in-loop-rule.ensures,
+      rule_byte_next file c.loop-rule.rule c.loop-rule.byte c.field_of_2-in-loop-rule.result c.loop-rule.invariant.0 c.field_of_2-in-loop-rule.ensures,
       omega arith,
       c.loop-rule.invariant.2
-          ∙ lengths_go c.args.total file c.loop-rule.rule (rule_count file) c.loop-rule.byte c.length-fault-fault.result
-          (omega arith) c.loop-rule.invariant.0 c.length-fault-fault.ensures none,
+          ∙ lengths_go c.args.total file c.loop-rule.rule (rule_count file) c.loop-rule.byte c.length_fault-fault.result
+          (omega arith) c.loop-rule.invariant.0 c.length_fault-fault.ensures none,
     )
 
 -- Behind the last rule all lengths are passed.
@@ -56,7 +56,7 @@ returns-then-byte-total c =
     let total = c.args.total in
     let at : rule_byte file (rule_count file) ≡ c.loop-rule.byte = at_end file c.loop-rule.rule c.loop-rule.byte (omega arith) c.loop-rule.invariant.0 in
     let other : eqb (rule_byte file (rule_count file)) total ≡ false = ne_eqb (rule_byte file (rule_count file)) total (λ same. c.if-byte-total.true (sym at ∙ same)) in
-    c.length-differs.ensures
+    c.length_differs.ensures
     ∙ sym
     (passed total file c.loop-rule.rule (omega arith) c.loop-rule.invariant.2
     ∙ ap (λ (t : Bool). faulty (not t) WrongLength total) other)

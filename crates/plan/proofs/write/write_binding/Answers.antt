@@ -6,8 +6,8 @@ use Rattle.plan.proofs.write.write_binding.Goals as goal
 pub returns : goal.returns
 returns c = record {
   put =
-      put_three (put_same (c.to-le-bytes.ensures ∙ sym (bytes_of_2 c.args.binding.now.from)) c.write-behind-from.ensures)
-      (put_same (c.to-le-bytes-2.ensures ∙ sym (bytes_of_2 c.args.binding.now.to)) c.write-behind-to.ensures)
-      (put_same (c.to-le-bytes-3.ensures ∙ sym (bytes_of_8 c.args.binding.now.set.0)) c.write.ensures);
+      put_three (put_same (c.to_le_bytes.ensures ∙ sym (bytes_of_2 c.args.binding.now.from)) c.write-behind_from.ensures)
+      (put_same (c.to_le_bytes-2.ensures ∙ sym (bytes_of_2 c.args.binding.now.to)) c.write-behind_to.ensures)
+      (put_same (c.to_le_bytes-3.ensures ∙ sym (bytes_of_8 c.args.binding.now.set.0)) c.write.ensures);
   fits = search rules;
 }

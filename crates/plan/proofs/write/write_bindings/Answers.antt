@@ -11,8 +11,8 @@ pub loop-b-init : goal.loop-b-init
 unfolding flat
 loop-b-init c = (put_nothing c.args.out.now c.args.at, each_none (λ b. b.set.0 < 2 ^ 64))
 
-pub write-binding-next-requires : goal.write-binding-next-requires
-write-binding-next-requires c =
+pub write_binding-next-requires : goal.write_binding-next-requires
+write_binding-next-requires c =
     let d : Binding Word = record { from = 0; to = 0; set = record { 0 = 0 } } in
     omega (
       arith,
@@ -22,8 +22,8 @@ write-binding-next-requires c =
 
 pub loop-b-preserved : goal.loop-b-preserved
 loop-b-preserved c = (
-  put_more binding_bytes c.args.records.now c.loop-b.b-index _ c.loop-b-test.true c.loop-b.invariant.0 c.write-binding-next.ensures.put,
-  each_more (λ b. b.set.0 < 2 ^ 64) c.args.records.now c.loop-b.b-index _ c.loop-b-test.true c.loop-b.invariant.1 c.write-binding-next.ensures.fits,
+  put_more binding_bytes c.args.records.now c.loop-b.b-index _ c.loop-b-test.true c.loop-b.invariant.0 c.write_binding-next.ensures.put,
+  each_more (λ b. b.set.0 < 2 ^ 64) c.args.records.now c.loop-b.b-index _ c.loop-b-test.true c.loop-b.invariant.1 c.write_binding-next.ensures.fits,
 )
 
 pub returns : goal.returns

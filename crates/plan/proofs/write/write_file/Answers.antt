@@ -7,49 +7,49 @@ use Rattle.plan.proofs.Lent.{lent_length}
 use Rattle.plan.proofs.Writes.{put_same, length_contents, length_binding}
 use Rattle.plan.proofs.write.write_file.Goals as goal
 
-pub write-contents-behind-contents-requires : goal.write-contents-behind-contents-requires
-write-contents-behind-contents-requires c =
+pub write_contents-behind_contents-requires : goal.write_contents-behind_contents-requires
+write_contents-behind_contents-requires c =
     let p : Plan = plan_with c.args.marks.now c.args.records.now c.args.texts.now in
     record {
       counts = (c.requires.few_places, (c.requires.few_bindings, omega (arith, lent_length c.args.texts.now, c.requires.few_rules)));
       room = omega (arith, c.requires.fits, length_encoded p);
     }
 
-pub write-marks-behind-marks-requires : goal.write-marks-behind-marks-requires
-write-marks-behind-marks-requires c =
+pub write_marks-behind_marks-requires : goal.write_marks-behind_marks-requires
+write_marks-behind_marks-requires c =
     omega (
       arith,
       c.requires.fits,
       length_encoded (plan_with c.args.marks.now c.args.records.now c.args.texts.now),
-      c.write-contents-behind-contents.ensures.ends,
+      c.write_contents-behind_contents.ensures.ends,
       length_contents (length c.args.marks.now) (length c.args.records.now) (length c.args.texts.now),
       length_marks c.args.marks.now,
     )
 
-pub write-bindings-behind-bindings-requires : goal.write-bindings-behind-bindings-requires
-write-bindings-behind-bindings-requires c =
+pub write_bindings-behind_bindings-requires : goal.write_bindings-behind_bindings-requires
+write_bindings-behind_bindings-requires c =
     omega (
       arith,
       c.requires.fits,
       length_encoded (plan_with c.args.marks.now c.args.records.now c.args.texts.now),
-      c.write-contents-behind-contents.ensures.ends,
+      c.write_contents-behind_contents.ensures.ends,
       length_contents (length c.args.marks.now) (length c.args.records.now) (length c.args.texts.now),
-      c.write-marks-behind-marks.ensures.put.ends,
+      c.write_marks-behind_marks.ensures.put.ends,
       length_marks c.args.marks.now,
       length_flat 12 binding_bytes length_binding c.args.records.now,
     )
 
-pub write-texts-requires : goal.write-texts-requires
-write-texts-requires c = (
+pub write_texts-requires : goal.write_texts-requires
+write_texts-requires c = (
   omega (
     arith,
     c.requires.fits,
     length_encoded (plan_with c.args.marks.now c.args.records.now c.args.texts.now),
-    c.write-contents-behind-contents.ensures.ends,
+    c.write_contents-behind_contents.ensures.ends,
     length_contents (length c.args.marks.now) (length c.args.records.now) (length c.args.texts.now),
-    c.write-marks-behind-marks.ensures.put.ends,
+    c.write_marks-behind_marks.ensures.put.ends,
     length_marks c.args.marks.now,
-    c.write-bindings-behind-bindings.ensures.put.ends,
+    c.write_bindings-behind_bindings.ensures.put.ends,
     length_flat 12 binding_bytes length_binding c.args.records.now,
   ),
   c.requires.rules,
@@ -61,8 +61,8 @@ returns c =
     record {
       put =
           put_parts p
-          (put_same (ap (contents (length p.marks) (length p.records)) (sym (lent_length c.args.texts.now))) c.write-contents-behind-contents.ensures)
-          c.write-marks-behind-marks.ensures.put c.write-bindings-behind-bindings.ensures.put c.write-texts.ensures;
-      marks_fit = c.write-marks-behind-marks.ensures.fit;
-      sets_fit = c.write-bindings-behind-bindings.ensures.fit;
+          (put_same (ap (contents (length p.marks) (length p.records)) (sym (lent_length c.args.texts.now))) c.write_contents-behind_contents.ensures)
+          c.write_marks-behind_marks.ensures.put c.write_bindings-behind_bindings.ensures.put c.write_texts.ensures;
+      marks_fit = c.write_marks-behind_marks.ensures.fit;
+      sets_fit = c.write_bindings-behind_bindings.ensures.fit;
     }

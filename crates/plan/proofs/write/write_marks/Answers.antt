@@ -15,17 +15,17 @@ pub write-next-requires : goal.write-next-requires
 write-next-requires c =
     omega (
       arith,
-      ap length (c.to-le-bytes.ensures ∙ sym (bytes_of_4 _)),
+      ap length (c.to_le_bytes.ensures ∙ sym (bytes_of_4 _)),
       room_next (bytes_of 4) c.args.marks.now c.loop-m.m-index 0 c.loop-m-test.true c.loop-m.invariant c.requires,
     )
 
 pub loop-m-preserved : goal.loop-m-preserved
 loop-m-preserved c =
     put_more (bytes_of 4) c.args.marks.now c.loop-m.m-index 0 c.loop-m-test.true c.loop-m.invariant
-    (put_same (c.to-le-bytes.ensures ∙ sym (bytes_of_4 _)) c.write-next.ensures)
+    (put_same (c.to_le_bytes.ensures ∙ sym (bytes_of_4 _)) c.write-next.ensures)
 
 pub returns : goal.returns
 returns c = record {
   put = put_all (bytes_of 4) c.args.marks.now c.loop-m.m-index c.loop-m-test.false c.loop-m.invariant;
-  fit = each_from_getD (λ m. m < 2 ^ 32) c.args.marks.now 0 (λ i h. (c.type-inv.marks i).fits);
+  fit = each_from_getD (λ m. m < 2 ^ 32) c.args.marks.now 0 (λ i h. (c.type_inv.marks i).fits);
 }

@@ -21,18 +21,18 @@ same_plan {n} {r} texts marks records = ap (λ ms. plan_with ms r texts) marks �
 
 pub returns-then-out-length : goal.returns-then-out-length
 returns-then-out-length c =
-    let p : Plan = plan_with c.lent-marks-marks.result.now c.lent-records-records.result.now c.args.texts.now in (
-      subst (λ (p : Plan). WriteRefused p (length c.args.out.now) TooShort) (same_plan c.args.texts.now c.lent-marks-marks.ensures c.lent-records-records.ensures)
+    let p : Plan = plan_with c.lent_marks-marks.result.now c.lent_records-records.result.now c.args.texts.now in (
+      subst (λ (p : Plan). WriteRefused p (length c.args.out.now) TooShort) (same_plan c.args.texts.now c.lent_marks-marks.ensures c.lent_records-records.ensures)
           (c.in-Ok.ensures.0, c.in-default.ensures.0, omega (arith, c.in-Ok.ensures.1, length_encoded p)),
       refl,
     )
 
-pub write-file-requires : goal.write-file-requires
-write-file-requires c =
-    let p : Plan = plan_with c.lent-marks-marks.result.now c.lent-records-records.result.now c.args.texts.now in
+pub write_file-requires : goal.write_file-requires
+write_file-requires c =
+    let p : Plan = plan_with c.lent_marks-marks.result.now c.lent_records-records.result.now c.args.texts.now in
     record {
-      few_places = omega (arith, c.args.site.now.few_places, ap length c.lent-marks-marks.ensures);
-      few_bindings = omega (arith, c.args.site.now.few_bindings, ap length c.lent-records-records.ensures);
+      few_places = omega (arith, c.args.site.now.few_places, ap length c.lent_marks-marks.ensures);
+      few_bindings = omega (arith, c.args.site.now.few_bindings, ap length c.lent_records-records.ensures);
       few_rules = few_from_none _ p.texts c.in-Ok.ensures.0;
       rules = c.in-default.ensures.0;
       fits = omega (arith, c.in-Ok.ensures.1, length_encoded p);
@@ -48,17 +48,17 @@ bindings_fit n records inside sets i b here =
 pub returns : goal.returns
 returns c =
     let site = c.args.site.now in
-    let put : Put c.args.out.now 0 (encoded (site_plan site c.args.texts.now)) c.write-file.new.out c.write-file.result
-    = subst (λ (p : Plan). Put c.args.out.now 0 (encoded p) c.write-file.new.out c.write-file.result)
-    (same_plan c.args.texts.now c.lent-marks-marks.ensures c.lent-records-records.ensures) c.write-file.ensures.put in
+    let put : Put c.args.out.now 0 (encoded (site_plan site c.args.texts.now)) c.write_file.new.out c.write_file.result
+    = subst (λ (p : Plan). Put c.args.out.now 0 (encoded p) c.write_file.new.out c.write_file.result)
+    (same_plan c.args.texts.now c.lent_marks-marks.ensures c.lent_records-records.ensures) c.write_file.ensures.put in
     record {
       sound =
           record {
             few_places = site.few_places;
             few_bindings = site.few_bindings;
             few_rules = few_from_none _ (lent c.args.texts.now) c.in-Ok.ensures.0;
-            marks_fit = subst (Each (λ m. m < 2 ^ 32)) c.lent-marks-marks.ensures c.write-file.ensures.marks_fit;
-            bindings_fit = bindings_fit _ (site_records site) site.ends (subst (Each (λ b. b.set.0 < 2 ^ 64)) c.lent-records-records.ensures c.write-file.ensures.sets-fit);
+            marks_fit = subst (Each (λ m. m < 2 ^ 32)) c.lent_marks-marks.ensures c.write_file.ensures.marks_fit;
+            bindings_fit = bindings_fit _ (site_records site) site.ends (subst (Each (λ b. b.set.0 < 2 ^ 64)) c.lent_records-records.ensures c.write_file.ensures.sets_fit);
             texts_fit = c.in-default.ensures.1;
             rules = c.in-default.ensures.0;
           };

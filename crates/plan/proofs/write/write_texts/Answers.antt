@@ -10,14 +10,14 @@ pub loop-text-init : goal.loop-text-init
 unfolding flat
 loop-text-init c = put_nothing c.args.out.now c.args.at
 
-pub write-text-next-requires : goal.write-text-next-requires
-write-text-next-requires c = (
+pub write_text-next-requires : goal.write_text-next-requires
+write_text-next-requires c = (
   room_lent c.args.texts.now c.loop-text.text-index _ c.loop-text-test.true c.loop-text.invariant (omega (arith, c.requires.0)),
   short_lent c.args.texts.now c.loop-text.text-index _ c.loop-text-test.true c.requires.1,
 )
 
 pub loop-text-preserved : goal.loop-text-preserved
-loop-text-preserved c = put_lent c.args.texts.now c.loop-text.text-index _ c.loop-text-test.true c.loop-text.invariant c.write-text-next.ensures
+loop-text-preserved c = put_lent c.args.texts.now c.loop-text.text-index _ c.loop-text-test.true c.loop-text.invariant c.write_text-next.ensures
 
 pub returns : goal.returns
 returns c =

@@ -7,8 +7,8 @@ use Rattle.report.proofs.file.add_rules.Goals.{in-Some, in-default}
 pub loop-rule-init : goal.loop-rule-init
 loop-rule-init c = (printed_none (file_plan c.args.plan.now) c.args.report.now c.requires.fresh, refl, refl)
 
-pub add-rule-requires : goal.add-rule-requires
-add-rule-requires c = record {
+pub add_rule-requires : goal.add_rule-requires
+add_rule-requires c = record {
   digit = omega arith;
   taken = c.in-Some.ensures.accepted;
   room = (omega arith, omega arith);
@@ -21,10 +21,10 @@ loop-rule-preserved c =
     let inv = c.loop-rule.invariant in
     elim c.match-table.branch [
       | in-Some w ↦
-          let more = printed_rule p _ c.loop-rule.rule c.loop-rule.report w.add-rule.new.report w.in-Some.table few w.in-Some.ensures w.add-rule.ensures inv.0 in (
+          let more = printed_rule p _ c.loop-rule.rule c.loop-rule.report w.add_rule.new.report w.in-Some.table few w.in-Some.ensures w.add_rule.ensures inv.0 in (
             subst (Printed p _ (c.loop-rule.rule + 1)) (sym w.report-is) more,
-            omega (arith, ap length w.main-is, w.add-rule.auto.main),
-            omega (arith, ap length w.spare-is, w.add-rule.auto.spare),
+            omega (arith, ap length w.main-is, w.add_rule.auto.main),
+            omega (arith, ap length w.spare-is, w.add_rule.auto.spare),
           )
       | in-default w ↦ let past = w.in-default.ensures in absurd (omega arith)
     ]

@@ -15,5 +15,5 @@ pub returns-in-Some : goal.returns-in-Some
 returns-in-Some c =
     let told = c.in-Some.ensures in (
       inr told.0,
-      λ rest long. refused_report _ c.refusal-report.result _ (told.1 rest long) c.refusal-report.ensures.text c.refusal-report.ensures.fault,
+      λ rest long. refused_report _ c.refusal_report.result _ (told.1 rest long) c.refusal_report.ensures.text c.refusal_report.ensures.fault,
     )

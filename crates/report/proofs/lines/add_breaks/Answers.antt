@@ -6,12 +6,12 @@ use Rattle.report.proofs.lines.add_breaks.Goals as goal
 pub returns : goal.returns
 unfolding breaks_line
 returns c = record {
-  adds = adds_then c.add-number.ensures.adds
+  adds = adds_then c.add_number.ensures.adds
       (adds_then c.add.ensures
-      (adds_then c.add-number-2.ensures.adds
+      (adds_then c.add_number-2.ensures.adds
       (adds_then c.add-2.ensures
-      (adds_then c.add-number-3.ensures.adds
+      (adds_then c.add_number-3.ensures.adds
       (adds_then c.add-3.ensures
-      (adds_then c.add-number-4.ensures.adds c.add-4.ensures))))));
+      (adds_then c.add_number-4.ensures.adds c.add-4.ensures))))));
   short = breaks_length c.args.rule c.args.place c.args.setting c.args.rounds c.requires.digit (omega arith) (omega arith) (omega arith);
 }

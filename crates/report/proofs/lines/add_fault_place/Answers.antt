@@ -7,7 +7,7 @@ pub returns-in-InFile : goal.returns-in-InFile
 returns-in-InFile c =
     let here = ap fault_place (sym c.in-InFile.is) in
     record {
-      adds = adds_same here (adds_then c.add.ensures c.add-number.ensures.adds);
+      adds = adds_same here (adds_then c.add.ensures c.add_number.ensures.adds);
       short = omega (arith, ap length here);
     }
 
@@ -16,6 +16,6 @@ returns-in-InText c =
     let here = ap fault_place (sym c.in-InText.is) in
     record {
       adds = adds_same here
-          (adds_then c.add-number-in-InText.ensures.adds (adds_then c.add-in-InText.ensures c.add-number-in-InText-2.ensures.adds));
+          (adds_then c.add_number-in-InText.ensures.adds (adds_then c.add-in-InText.ensures c.add_number-in-InText-2.ensures.adds));
       short = omega (arith, simp length-append at (ap length here));
     }

@@ -6,6 +6,6 @@ use Rattle.report.proofs.lines.add_holds.Goals as goal
 pub returns : goal.returns
 unfolding holds_line
 returns c = record {
-  adds = adds_then c.add-number.ensures.adds (adds_then c.add.ensures (adds_then c.add-number-2.ensures.adds c.add-2.ensures));
+  adds = adds_then c.add_number.ensures.adds (adds_then c.add.ensures (adds_then c.add_number-2.ensures.adds c.add-2.ensures));
   short = holds_length c.args.rule c.args.rounds c.requires.digit (omega arith);
 }

@@ -3,9 +3,9 @@ use Rattle.output.proofs.Puts.{put_inside}
 use Rattle.report.proofs.Adding.{long_length}
 use Rattle.report.proofs.lines.add_number.Goals as goal
 
-pub invariant-of-report : goal.invariant-of-report
-invariant-of-report c =
-    let inside : c.in-Some.next ≤ length c.put-decimal.new.out = put_inside _ _ _ _ _ (omega arith) c.in-Some.ensures in
+pub invariant_of-report : goal.invariant_of-report
+invariant_of-report c =
+    let inside : c.in-Some.next ≤ length c.put_decimal.new.out = put_inside _ _ _ _ _ (omega arith) c.in-Some.ensures in
     (omega arith, (omega arith, tt))
 
 pub returns-in-Some : goal.returns-in-Some

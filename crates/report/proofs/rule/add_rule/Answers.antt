@@ -23,8 +23,8 @@ returns-in-Ok g c =
     subst (λ (table : List Row). RoundsBefore N table (length table) rounds) c.rows.ensures e.1.counted in
     record {
       line = verdict_line c.args.rule v rounds;
-      short = c.add-verdict.ensures.short;
-      adds = c.add-verdict.ensures.adds;
+      short = c.add_verdict.ensures.short;
+      adds = c.add_verdict.ensures.adds;
       right = λ t is. rule_line N c.args.rule t rows v rounds is told counted;
     }
 

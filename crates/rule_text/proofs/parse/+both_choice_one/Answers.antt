@@ -8,56 +8,56 @@ use Rattle.rule_text.proofs.Steps.{onward, cut, stuck, no_starter}
 use Rattle.rule_text.proofs.Parts
 use Rattle.rule_text.proofs.parse.+both_choice_one.Goals as goal
 
-pub both-returns-in-err-advance : goal.both-returns-in-err-advance
-both-returns-in-err-advance t c =
+pub both-returns-in_err-advance : goal.both-returns-in_err-advance
+both-returns-in_err-advance t c =
     record {
       on = (onward c.args.r.now c.loop-r.r c.advance.new.r (onward c.args.r.now c.one.new.r c.loop-r.r c.one.ensures.on c.loop-r.invariant.0) c.advance.ensures.on);
-      reads = Parts.broken (BothRead c.args.levels c.args.r.now c.advance.new.r c.args.t.now c.loop-r.t) c.from-residual-in-err-advance.result c.in-err-advance.field-0.0 c.from-residual-in-err-advance.ensures.1
-          (Parts.both_next_bad c.args.levels c.args.r.now c.one.new.r c.loop-r.r c.args.t.now c.one.new.t c.loop-r.t c.in-ok-left.left c.loop-r.left c.in-ok-left.ensures.reads c.one.ensures.on c.loop-r.invariant.2 c.advance.new.r c.loop-r.t c.in-err-advance.field-0.0 (c.has.ensures.0 c.loop-r-test.true) c.in-err-advance.ensures.step);
+      reads = Parts.broken (BothRead c.args.levels c.args.r.now c.advance.new.r c.args.t.now c.loop-r.t) c.from-residual-in_err-advance.result c.in_err-advance.field-0.0 c.from-residual-in_err-advance.ensures.1
+          (Parts.both_next_bad c.args.levels c.args.r.now c.one.new.r c.loop-r.r c.args.t.now c.one.new.t c.loop-r.t c.in_ok-left.left c.loop-r.left c.in_ok-left.ensures.reads c.one.ensures.on c.loop-r.invariant.2 c.advance.new.r c.loop-r.t c.in_err-advance.field-0.0 (c.has.ensures.0 c.loop-r-test.true) c.in_err-advance.ensures.step);
     }
 
-pub both-returns-in-err-right : goal.both-returns-in-err-right
-both-returns-in-err-right t c =
+pub both-returns-in_err-right : goal.both-returns-in_err-right
+both-returns-in_err-right t c =
     record {
-      on = onward c.args.r.now c.advance.new.r c.one-in-loop-r.new.r (onward c.args.r.now c.loop-r.r c.advance.new.r (onward c.args.r.now c.one.new.r c.loop-r.r c.one.ensures.on c.loop-r.invariant.0) c.advance.ensures.on) c.one-in-loop-r.ensures.on;
-      reads = Parts.broken (BothRead c.args.levels c.args.r.now c.one-in-loop-r.new.r c.args.t.now c.one-in-loop-r.new.t) c.from-residual-in-err-right.result c.in-err-right.field-0.0 c.from-residual-in-err-right.ensures.1
-          (Parts.both_part_bad c.args.levels c.args.r.now c.one.new.r c.loop-r.r c.args.t.now c.one.new.t c.loop-r.t c.in-ok-left.left c.loop-r.left c.in-ok-left.ensures.reads c.one.ensures.on c.loop-r.invariant.2 c.advance.new.r c.one-in-loop-r.new.r c.one-in-loop-r.new.r c.one-in-loop-r.new.t c.one-in-loop-r.new.t c.in-err-right.field-0.0 (c.has.ensures.0 c.loop-r-test.true) c.in-ok-advance.ensures.step (onward c.args.r.now c.loop-r.r c.advance.new.r (onward c.args.r.now c.one.new.r c.loop-r.r c.one.ensures.on c.loop-r.invariant.0) c.advance.ensures.on) c.in-err-right.ensures.reads);
+      on = onward c.args.r.now c.advance.new.r c.one_in-loop-r.new.r (onward c.args.r.now c.loop-r.r c.advance.new.r (onward c.args.r.now c.one.new.r c.loop-r.r c.one.ensures.on c.loop-r.invariant.0) c.advance.ensures.on) c.one_in-loop-r.ensures.on;
+      reads = Parts.broken (BothRead c.args.levels c.args.r.now c.one_in-loop-r.new.r c.args.t.now c.one_in-loop-r.new.t) c.from-residual-in_err-right.result c.in_err-right.field-0.0 c.from-residual-in_err-right.ensures.1
+          (Parts.both_part_bad c.args.levels c.args.r.now c.one.new.r c.loop-r.r c.args.t.now c.one.new.t c.loop-r.t c.in_ok-left.left c.loop-r.left c.in_ok-left.ensures.reads c.one.ensures.on c.loop-r.invariant.2 c.advance.new.r c.one_in-loop-r.new.r c.one_in-loop-r.new.r c.one_in-loop-r.new.t c.one_in-loop-r.new.t c.in_err-right.field-0.0 (c.has.ensures.0 c.loop-r-test.true) c.in_ok-advance.ensures.step (onward c.args.r.now c.loop-r.r c.advance.new.r (onward c.args.r.now c.one.new.r c.loop-r.r c.one.ensures.on c.loop-r.invariant.0) c.advance.ensures.on) c.in_err-right.ensures.reads);
     }
 
 pub both-loop-r-preserved : goal.both-loop-r-preserved
 both-loop-r-preserved t c = (
-  onward c.one.new.r c.advance.new.r c.one-in-loop-r.new.r (onward c.one.new.r c.loop-r.r c.advance.new.r c.loop-r.invariant.0 c.advance.ensures.on) c.one-in-loop-r.ensures.on,
-  omega (arith, c.in-ok-right.ensures.reads.2, Parts.later c.loop-r.r c.advance.new.r And (c.has.ensures.0 c.loop-r-test.true) c.in-ok-advance.ensures.step),
-  Parts.joining-more c.args.levels c.one.new.r c.loop-r.r c.advance.new.r c.one-in-loop-r.new.r c.one.new.t c.loop-r.t c.one-in-loop-r.new.t c.emit-left.new.t
-      c.in-ok-left.left c.loop-r.left c.in-ok-right.right c.emit-left.result
-      c.loop-r.invariant.2 c.loop-r.invariant.0 (c.has.ensures.0 c.loop-r-test.true) c.in-ok-advance.ensures.step c.advance.ensures.on c.in-ok-right.ensures.reads
+  onward c.one.new.r c.advance.new.r c.one_in-loop-r.new.r (onward c.one.new.r c.loop-r.r c.advance.new.r c.loop-r.invariant.0 c.advance.ensures.on) c.one_in-loop-r.ensures.on,
+  omega (arith, c.in_ok-right.ensures.reads.2, Parts.later c.loop-r.r c.advance.new.r And (c.has.ensures.0 c.loop-r-test.true) c.in_ok-advance.ensures.step),
+  Parts.joining-more c.args.levels c.one.new.r c.loop-r.r c.advance.new.r c.one_in-loop-r.new.r c.one.new.t c.loop-r.t c.one_in-loop-r.new.t c.emit-left.new.t
+      c.in_ok-left.left c.loop-r.left c.in_ok-right.right c.emit-left.result
+      c.loop-r.invariant.2 c.loop-r.invariant.0 (c.has.ensures.0 c.loop-r-test.true) c.in_ok-advance.ensures.step c.advance.ensures.on c.in_ok-right.ensures.reads
       c.emit-left.ensures.rows c.emit-left.ensures.last,
 )
 
-pub choice-returns-in-err-advance : goal.choice-returns-in-err-advance
-choice-returns-in-err-advance t c =
+pub choice-returns-in_err-advance : goal.choice-returns-in_err-advance
+choice-returns-in_err-advance t c =
     record {
       on = (onward c.args.r.now c.loop-r.r c.advance.new.r (onward c.args.r.now c.both.new.r c.loop-r.r c.both.ensures.on c.loop-r.invariant.0) c.advance.ensures.on);
-      reads = Parts.broken (ChoiceRead c.args.levels c.args.r.now c.advance.new.r c.args.t.now c.loop-r.t) c.from-residual-in-err-advance.result c.in-err-advance.field-0.0 c.from-residual-in-err-advance.ensures.1
-          (Parts.choice_next_bad c.args.levels c.args.r.now c.both.new.r c.loop-r.r c.args.t.now c.both.new.t c.loop-r.t c.in-ok-left.left c.loop-r.left c.in-ok-left.ensures.reads c.both.ensures.on c.loop-r.invariant.3 c.advance.new.r c.loop-r.t c.in-err-advance.field-0.0 (c.has.ensures.0 c.loop-r-test.true) c.in-err-advance.ensures.step);
+      reads = Parts.broken (ChoiceRead c.args.levels c.args.r.now c.advance.new.r c.args.t.now c.loop-r.t) c.from-residual-in_err-advance.result c.in_err-advance.field-0.0 c.from-residual-in_err-advance.ensures.1
+          (Parts.choice_next_bad c.args.levels c.args.r.now c.both.new.r c.loop-r.r c.args.t.now c.both.new.t c.loop-r.t c.in_ok-left.left c.loop-r.left c.in_ok-left.ensures.reads c.both.ensures.on c.loop-r.invariant.3 c.advance.new.r c.loop-r.t c.in_err-advance.field-0.0 (c.has.ensures.0 c.loop-r-test.true) c.in_err-advance.ensures.step);
     }
 
-pub choice-returns-in-err-right : goal.choice-returns-in-err-right
-choice-returns-in-err-right t c =
+pub choice-returns-in_err-right : goal.choice-returns-in_err-right
+choice-returns-in_err-right t c =
     record {
       on = onward c.args.r.now c.advance.new.r c.both-in-loop-r.new.r (onward c.args.r.now c.loop-r.r c.advance.new.r (onward c.args.r.now c.both.new.r c.loop-r.r c.both.ensures.on c.loop-r.invariant.0) c.advance.ensures.on) c.both-in-loop-r.ensures.on;
-      reads = Parts.broken (ChoiceRead c.args.levels c.args.r.now c.both-in-loop-r.new.r c.args.t.now c.both-in-loop-r.new.t) c.from-residual-in-err-right.result c.in-err-right.field-0.0 c.from-residual-in-err-right.ensures.1
-          (Parts.choice_part_bad c.args.levels c.args.r.now c.both.new.r c.loop-r.r c.args.t.now c.both.new.t c.loop-r.t c.in-ok-left.left c.loop-r.left c.in-ok-left.ensures.reads c.both.ensures.on c.loop-r.invariant.3 c.advance.new.r c.both-in-loop-r.new.r c.both-in-loop-r.new.r c.both-in-loop-r.new.t c.both-in-loop-r.new.t c.in-err-right.field-0.0 (c.has.ensures.0 c.loop-r-test.true) c.in-ok-advance.ensures.step (onward c.args.r.now c.loop-r.r c.advance.new.r (onward c.args.r.now c.both.new.r c.loop-r.r c.both.ensures.on c.loop-r.invariant.0) c.advance.ensures.on) c.in-err-right.ensures.reads);
+      reads = Parts.broken (ChoiceRead c.args.levels c.args.r.now c.both-in-loop-r.new.r c.args.t.now c.both-in-loop-r.new.t) c.from-residual-in_err-right.result c.in_err-right.field-0.0 c.from-residual-in_err-right.ensures.1
+          (Parts.choice_part_bad c.args.levels c.args.r.now c.both.new.r c.loop-r.r c.args.t.now c.both.new.t c.loop-r.t c.in_ok-left.left c.loop-r.left c.in_ok-left.ensures.reads c.both.ensures.on c.loop-r.invariant.3 c.advance.new.r c.both-in-loop-r.new.r c.both-in-loop-r.new.r c.both-in-loop-r.new.t c.both-in-loop-r.new.t c.in_err-right.field-0.0 (c.has.ensures.0 c.loop-r-test.true) c.in_ok-advance.ensures.step (onward c.args.r.now c.loop-r.r c.advance.new.r (onward c.args.r.now c.both.new.r c.loop-r.r c.both.ensures.on c.loop-r.invariant.0) c.advance.ensures.on) c.in_err-right.ensures.reads);
     }
 
 pub choice-loop-r-preserved : goal.choice-loop-r-preserved
 choice-loop-r-preserved t c = (
   onward c.both.new.r c.advance.new.r c.both-in-loop-r.new.r (onward c.both.new.r c.loop-r.r c.advance.new.r c.loop-r.invariant.0 c.advance.ensures.on) c.both-in-loop-r.ensures.on,
-  omega (arith, c.in-ok-right.ensures.reads.2, Parts.later c.loop-r.r c.advance.new.r Or (c.has.ensures.0 c.loop-r-test.true) c.in-ok-advance.ensures.step),
-  c.in-ok-right.ensures.reads.3,
+  omega (arith, c.in_ok-right.ensures.reads.2, Parts.later c.loop-r.r c.advance.new.r Or (c.has.ensures.0 c.loop-r-test.true) c.in_ok-advance.ensures.step),
+  c.in_ok-right.ensures.reads.3,
   Parts.choosing-more c.args.levels c.both.new.r c.loop-r.r c.advance.new.r c.both-in-loop-r.new.r c.both.new.t c.loop-r.t c.both-in-loop-r.new.t c.emit-left.new.t
-      c.in-ok-left.left c.loop-r.left c.in-ok-right.right c.emit-left.result
-      c.loop-r.invariant.3 c.loop-r.invariant.0 (c.has.ensures.0 c.loop-r-test.true) c.in-ok-advance.ensures.step c.advance.ensures.on c.in-ok-right.ensures.reads
+      c.in_ok-left.left c.loop-r.left c.in_ok-right.right c.emit-left.result
+      c.loop-r.invariant.3 c.loop-r.invariant.0 (c.has.ensures.0 c.loop-r-test.true) c.in_ok-advance.ensures.step c.advance.ensures.on c.in_ok-right.ensures.reads
       c.emit-left.ensures.rows c.emit-left.ensures.last,
 )
 
@@ -65,171 +65,171 @@ pub choice-returns : goal.choice-returns
 choice-returns t c =
     record {
       on = (onward c.args.r.now c.both.new.r c.loop-r.r c.both.ensures.on c.loop-r.invariant.0);
-      reads = Parts.choice_done c.args.levels c.args.r.now c.both.new.r c.loop-r.r c.args.t.now c.both.new.t c.loop-r.t c.in-ok-left.left c.loop-r.left c.in-ok-left.ensures.reads c.both.ensures.on c.loop-r.invariant.3 c.loop-r.invariant.1 c.loop-r.invariant.2 (not_from_Decides c.has.result c.has.ensures c.loop-r-test.false);
+      reads = Parts.choice_done c.args.levels c.args.r.now c.both.new.r c.loop-r.r c.args.t.now c.both.new.t c.loop-r.t c.in_ok-left.left c.loop-r.left c.in_ok-left.ensures.reads c.both.ensures.on c.loop-r.invariant.3 c.loop-r.invariant.1 c.loop-r.invariant.2 (not_from_Decides c.has.result c.has.ensures c.loop-r-test.false);
     }
 
-pub one-returns-in-err-enter : goal.one-returns-in-err-enter
-one-returns-in-err-enter t c =
+pub one-returns-in_err-enter : goal.one-returns-in_err-enter
+one-returns-in_err-enter t c =
     record {
       on = c.enter.ensures.on;
-      reads = Parts.broken (OneRead c.args.levels c.args.r.now c.enter.new.r c.args.t.now c.args.t.now) c.from-residual.result c.in-err-enter.field-0.0 c.from-residual.ensures.1
-          (Parts.one_not_entered c.args.levels c.args.r.now c.enter.new.r c.enter.new.r c.args.t.now c.args.t.now Yes c.in-err-enter.field-0.0 (c.in-Some.is ∙ ap Some c.in-Yes.is) refl c.in-err-enter.ensures.enters (λ xs o l K. (_, refl)));
+      reads = Parts.broken (OneRead c.args.levels c.args.r.now c.enter.new.r c.args.t.now c.args.t.now) c.from-residual.result c.in_err-enter.field-0.0 c.from-residual.ensures.1
+          (Parts.one_not_entered c.args.levels c.args.r.now c.enter.new.r c.enter.new.r c.args.t.now c.args.t.now Yes c.in_err-enter.field-0.0 (c.in-Some.is ∙ ap Some c.in-Yes.is) refl c.in_err-enter.ensures.enters (λ xs o l K. (_, refl)));
     }
 
-pub one-returns-in-err-enter-2 : goal.one-returns-in-err-enter-2
-one-returns-in-err-enter-2 t c =
+pub one-returns-in_err-enter-2 : goal.one-returns-in_err-enter-2
+one-returns-in_err-enter-2 t c =
     record {
       on = c.enter-in-Mark.ensures.on;
-      reads = Parts.broken (OneRead c.args.levels c.args.r.now c.enter-in-Mark.new.r c.args.t.now c.args.t.now) c.from-residual-in-err-enter-2.result c.in-err-enter-2.field-0.0 c.from-residual-in-err-enter-2.ensures.1
-          (Parts.one_not_entered c.args.levels c.args.r.now c.enter-in-Mark.new.r c.enter-in-Mark.new.r c.args.t.now c.args.t.now (Mark c.in-Mark.k) c.in-err-enter-2.field-0.0 (c.in-Some.is ∙ ap Some c.in-Mark.is) refl c.in-err-enter-2.ensures.enters (λ xs o l K. (_, refl)));
+      reads = Parts.broken (OneRead c.args.levels c.args.r.now c.enter-in-Mark.new.r c.args.t.now c.args.t.now) c.from-residual-in_err-enter-2.result c.in_err-enter-2.field-0.0 c.from-residual-in_err-enter-2.ensures.1
+          (Parts.one_not_entered c.args.levels c.args.r.now c.enter-in-Mark.new.r c.enter-in-Mark.new.r c.args.t.now c.args.t.now (Mark c.in-Mark.k) c.in_err-enter-2.field-0.0 (c.in-Some.is ∙ ap Some c.in-Mark.is) refl c.in_err-enter-2.ensures.enters (λ xs o l K. (_, refl)));
     }
 
-pub one-returns-in-err-enter-3 : goal.one-returns-in-err-enter-3
-one-returns-in-err-enter-3 t c =
+pub one-returns-in_err-enter-3 : goal.one-returns-in_err-enter-3
+one-returns-in_err-enter-3 t c =
     record {
       on = c.enter-in-Condition.ensures.on;
-      reads = Parts.broken (OneRead c.args.levels c.args.r.now c.enter-in-Condition.new.r c.args.t.now c.args.t.now) c.from-residual-in-err-enter-3.result c.in-err-enter-3.field-0.0 c.from-residual-in-err-enter-3.ensures.1
-          (Parts.one_not_entered c.args.levels c.args.r.now c.enter-in-Condition.new.r c.enter-in-Condition.new.r c.args.t.now c.args.t.now (Condition c.in-Condition.k) c.in-err-enter-3.field-0.0 (c.in-Some.is ∙ ap Some c.in-Condition.is) refl c.in-err-enter-3.ensures.enters (λ xs o l K. (_, refl)));
+      reads = Parts.broken (OneRead c.args.levels c.args.r.now c.enter-in-Condition.new.r c.args.t.now c.args.t.now) c.from-residual-in_err-enter-3.result c.in_err-enter-3.field-0.0 c.from-residual-in_err-enter-3.ensures.1
+          (Parts.one_not_entered c.args.levels c.args.r.now c.enter-in-Condition.new.r c.enter-in-Condition.new.r c.args.t.now c.args.t.now (Condition c.in-Condition.k) c.in_err-enter-3.field-0.0 (c.in-Some.is ∙ ap Some c.in-Condition.is) refl c.in_err-enter-3.ensures.enters (λ xs o l K. (_, refl)));
     }
 
-pub one-returns-in-err-enter-4 : goal.one-returns-in-err-enter-4
-one-returns-in-err-enter-4 t c =
+pub one-returns-in_err-enter-4 : goal.one-returns-in_err-enter-4
+one-returns-in_err-enter-4 t c =
     record {
       on = c.enter-in-Before.ensures.on;
-      reads = Parts.broken (OneRead c.args.levels c.args.r.now c.enter-in-Before.new.r c.args.t.now c.args.t.now) c.from-residual-in-err-enter-4.result c.in-err-enter-4.field-0.0 c.from-residual-in-err-enter-4.ensures.1
-          (Parts.one_not_entered c.args.levels c.args.r.now c.enter-in-Before.new.r c.enter-in-Before.new.r c.args.t.now c.args.t.now (Before c.in-Before.prefix) c.in-err-enter-4.field-0.0 (c.in-Some.is ∙ ap Some c.in-Before.is) refl c.in-err-enter-4.ensures.enters (λ xs o l K. (_, refl)));
+      reads = Parts.broken (OneRead c.args.levels c.args.r.now c.enter-in-Before.new.r c.args.t.now c.args.t.now) c.from-residual-in_err-enter-4.result c.in_err-enter-4.field-0.0 c.from-residual-in_err-enter-4.ensures.1
+          (Parts.one_not_entered c.args.levels c.args.r.now c.enter-in-Before.new.r c.enter-in-Before.new.r c.args.t.now c.args.t.now (Before c.in-Before.prefix) c.in_err-enter-4.field-0.0 (c.in-Some.is ∙ ap Some c.in-Before.is) refl c.in_err-enter-4.ensures.enters (λ xs o l K. (_, refl)));
     }
 
-pub one-returns-in-err-enter-5 : goal.one-returns-in-err-enter-5
-one-returns-in-err-enter-5 t c =
+pub one-returns-in_err-enter-5 : goal.one-returns-in_err-enter-5
+one-returns-in_err-enter-5 t c =
     record {
       on = c.enter-in-Open.ensures.on;
-      reads = Parts.broken (OneRead c.args.levels c.args.r.now c.enter-in-Open.new.r c.args.t.now c.args.t.now) c.from-residual-in-err-enter-5.result c.in-err-enter-5.field-0.0 c.from-residual-in-err-enter-5.ensures.1
-          (Parts.one_not_entered c.args.levels c.args.r.now c.enter-in-Open.new.r c.enter-in-Open.new.r c.args.t.now c.args.t.now Open c.in-err-enter-5.field-0.0 (c.in-Some.is ∙ ap Some c.in-Open.is) refl c.in-err-enter-5.ensures.enters (λ xs o l K. (_, refl)));
+      reads = Parts.broken (OneRead c.args.levels c.args.r.now c.enter-in-Open.new.r c.args.t.now c.args.t.now) c.from-residual-in_err-enter-5.result c.in_err-enter-5.field-0.0 c.from-residual-in_err-enter-5.ensures.1
+          (Parts.one_not_entered c.args.levels c.args.r.now c.enter-in-Open.new.r c.enter-in-Open.new.r c.args.t.now c.args.t.now Open c.in_err-enter-5.field-0.0 (c.in-Some.is ∙ ap Some c.in-Open.is) refl c.in_err-enter-5.ensures.enters (λ xs o l K. (_, refl)));
     }
 
-pub one-returns-in-err-enter-6 : goal.one-returns-in-err-enter-6
-one-returns-in-err-enter-6 t c =
+pub one-returns-in_err-enter-6 : goal.one-returns-in_err-enter-6
+one-returns-in_err-enter-6 t c =
     record {
       on = c.enter-in-Routes.ensures.on;
-      reads = Parts.broken (OneRead c.args.levels c.args.r.now c.enter-in-Routes.new.r c.args.t.now c.args.t.now) c.from-residual-in-err-enter-6.result c.in-err-enter-6.field-0.0 c.from-residual-in-err-enter-6.ensures.1
-          (Parts.one_not_entered c.args.levels c.args.r.now c.enter-in-Routes.new.r c.enter-in-Routes.new.r c.args.t.now c.args.t.now (Routes c.in-Routes.quantifier) c.in-err-enter-6.field-0.0 (c.in-Some.is ∙ ap Some c.in-Routes.is) refl c.in-err-enter-6.ensures.enters (λ xs o l K. (_, refl)));
+      reads = Parts.broken (OneRead c.args.levels c.args.r.now c.enter-in-Routes.new.r c.args.t.now c.args.t.now) c.from-residual-in_err-enter-6.result c.in_err-enter-6.field-0.0 c.from-residual-in_err-enter-6.ensures.1
+          (Parts.one_not_entered c.args.levels c.args.r.now c.enter-in-Routes.new.r c.enter-in-Routes.new.r c.args.t.now c.args.t.now (Routes c.in-Routes.quantifier) c.in_err-enter-6.field-0.0 (c.in-Some.is ∙ ap Some c.in-Routes.is) refl c.in_err-enter-6.ensures.enters (λ xs o l K. (_, refl)));
     }
 
-pub one-returns-in-ok-enter : goal.one-returns-in-ok-enter
-one-returns-in-ok-enter t c =
+pub one-returns-in_ok-enter : goal.one-returns-in_ok-enter
+one-returns-in_ok-enter t c =
     record {
       on = c.enter.ensures.on;
-      reads = Parts.one_word c.args.levels c.args.r.now c.enter.new.r c.args.t.now c.emit.new.t c.emit.result Yes truth (c.in-Some.is ∙ ap Some c.in-Yes.is) c.in-ok-enter.ensures.enters
+      reads = Parts.one_word c.args.levels c.args.r.now c.enter.new.r c.args.t.now c.emit.new.t c.emit.result Yes truth (c.in-Some.is ∙ ap Some c.in-Yes.is) c.in_ok-enter.ensures.enters
           (added_yes c.args.t.now c.emit.new.t c.emit.result c.emit.ensures.rows c.emit.ensures.last) (λ xs o l K. refl);
     }
 
-pub one-returns-in-ok-enter-2 : goal.one-returns-in-ok-enter-2
-one-returns-in-ok-enter-2 t c =
+pub one-returns-in_ok-enter-2 : goal.one-returns-in_ok-enter-2
+one-returns-in_ok-enter-2 t c =
     record {
       on = c.enter-in-Mark.ensures.on;
-      reads = Parts.one_word c.args.levels c.args.r.now c.enter-in-Mark.new.r c.args.t.now c.emit-in-Mark.new.t c.emit-in-Mark.result (Mark c.in-Mark.k) (mark c.in-Mark.k) (c.in-Some.is ∙ ap Some c.in-Mark.is) c.in-ok-enter-2.ensures.enters
+      reads = Parts.one_word c.args.levels c.args.r.now c.enter-in-Mark.new.r c.args.t.now c.emit-in-Mark.new.t c.emit-in-Mark.result (Mark c.in-Mark.k) (mark c.in-Mark.k) (c.in-Some.is ∙ ap Some c.in-Mark.is) c.in_ok-enter-2.ensures.enters
           (added_mark c.args.t.now c.emit-in-Mark.new.t c.in-Mark.k c.emit-in-Mark.result c.emit-in-Mark.ensures.rows c.emit-in-Mark.ensures.last) (λ xs o l K. refl);
     }
 
-pub one-returns-in-ok-enter-3 : goal.one-returns-in-ok-enter-3
-one-returns-in-ok-enter-3 t c =
+pub one-returns-in_ok-enter-3 : goal.one-returns-in_ok-enter-3
+one-returns-in_ok-enter-3 t c =
     record {
       on = c.enter-in-Condition.ensures.on;
-      reads = Parts.one_word c.args.levels c.args.r.now c.enter-in-Condition.new.r c.args.t.now c.emit-in-Condition.new.t c.emit-in-Condition.result (Condition c.in-Condition.k) (condition c.in-Condition.k) (c.in-Some.is ∙ ap Some c.in-Condition.is) c.in-ok-enter-3.ensures.enters
+      reads = Parts.one_word c.args.levels c.args.r.now c.enter-in-Condition.new.r c.args.t.now c.emit-in-Condition.new.t c.emit-in-Condition.result (Condition c.in-Condition.k) (condition c.in-Condition.k) (c.in-Some.is ∙ ap Some c.in-Condition.is) c.in_ok-enter-3.ensures.enters
           (added_condition c.args.t.now c.emit-in-Condition.new.t c.in-Condition.k c.emit-in-Condition.result c.emit-in-Condition.ensures.rows c.emit-in-Condition.ensures.last) (λ xs o l K. refl);
     }
 
-pub one-returns-in-ok-part : goal.one-returns-in-ok-part
-one-returns-in-ok-part t c =
+pub one-returns-in_ok-part : goal.one-returns-in_ok-part
+one-returns-in_ok-part t c =
     record {
       on = onward c.args.r.now c.enter-in-Before.new.r c.one.new.r c.enter-in-Before.ensures.on c.one.ensures.on;
-      reads = Parts.one-prefix c.in-Before.prefix c.args.levels c.args.r.now c.enter-in-Before.new.r c.one.new.r c.args.t.now c.open-prefix.new.t c.one.new.t c.close-prefix.new.t c.in-ok-part.part c.close-prefix.result
-          (c.in-Some.is ∙ ap Some c.in-Before.is) c.in-ok-enter-4.ensures.enters c.enter-in-Before.ensures.on c.in-ok-part.ensures.reads
-          (λ p ad. added_prefix c.in-Before.prefix c.args.t.now c.open-prefix.new.t c.one.new.t c.close-prefix.new.t p c.args.t.now.len c.in-ok-part.part c.close-prefix.result
-          c.open-prefix.ensures ad refl c.close-prefix.ensures.rows c.close-prefix.ensures.last);
+      reads = Parts.one-prefix c.in-Before.prefix c.args.levels c.args.r.now c.enter-in-Before.new.r c.one.new.r c.args.t.now c.open_prefix.new.t c.one.new.t c.close_prefix.new.t c.in_ok-part.part c.close_prefix.result
+          (c.in-Some.is ∙ ap Some c.in-Before.is) c.in_ok-enter-4.ensures.enters c.enter-in-Before.ensures.on c.in_ok-part.ensures.reads
+          (λ p ad. added_prefix c.in-Before.prefix c.args.t.now c.open_prefix.new.t c.one.new.t c.close_prefix.new.t p c.args.t.now.len c.in_ok-part.part c.close_prefix.result
+          c.open_prefix.ensures ad refl c.close_prefix.ensures.rows c.close_prefix.ensures.last);
     }
 
-pub one-returns-in-err-part : goal.one-returns-in-err-part
-one-returns-in-err-part t c =
+pub one-returns-in_err-part : goal.one-returns-in_err-part
+one-returns-in_err-part t c =
     record {
       on = onward c.args.r.now c.enter-in-Before.new.r c.one.new.r c.enter-in-Before.ensures.on c.one.ensures.on;
-      reads = Parts.broken (OneRead c.args.levels c.args.r.now c.one.new.r c.args.t.now c.one.new.t) c.from-residual-in-err-part.result c.in-err-part.field-0.0 c.from-residual-in-err-part.ensures.1
-          (Parts.one_prefix_not c.in-Before.prefix c.args.levels c.args.r.now c.enter-in-Before.new.r c.one.new.r c.one.new.r c.args.t.now c.open-prefix.new.t c.one.new.t c.one.new.t c.in-err-part.field-0.0 (c.in-Some.is ∙ ap Some c.in-Before.is) c.in-ok-enter-4.ensures.enters c.enter-in-Before.ensures.on c.in-err-part.ensures.reads);
+      reads = Parts.broken (OneRead c.args.levels c.args.r.now c.one.new.r c.args.t.now c.one.new.t) c.from-residual-in_err-part.result c.in_err-part.field-0.0 c.from-residual-in_err-part.ensures.1
+          (Parts.one_prefix_not c.in-Before.prefix c.args.levels c.args.r.now c.enter-in-Before.new.r c.one.new.r c.one.new.r c.args.t.now c.open_prefix.new.t c.one.new.t c.one.new.t c.in_err-part.field-0.0 (c.in-Some.is ∙ ap Some c.in-Before.is) c.in_ok-enter-4.ensures.enters c.enter-in-Before.ensures.on c.in_err-part.ensures.reads);
     }
 
-pub one-returns-in-err-whole : goal.one-returns-in-err-whole
-one-returns-in-err-whole t c =
+pub one-returns-in_err-whole : goal.one-returns-in_err-whole
+one-returns-in_err-whole t c =
     record {
       on = (onward c.args.r.now c.enter-in-Open.new.r c.choice.new.r c.enter-in-Open.ensures.on c.choice.ensures.on);
-      reads = Parts.broken (OneRead c.args.levels c.args.r.now c.choice.new.r c.args.t.now c.choice.new.t) c.from-residual-in-err-whole.result c.in-err-whole.field-0.0 c.from-residual-in-err-whole.ensures.1
-          (Parts.one_bracket_not c.args.levels c.args.r.now c.enter-in-Open.new.r (c.in-Some.is ∙ ap Some c.in-Open.is) c.in-ok-enter-5.ensures.enters c.enter-in-Open.ensures.on c.choice.new.r c.choice.new.r c.args.t.now c.choice.new.t c.args.t.now c.choice.new.t c.in-err-whole.field-0.0 c.in-err-whole.ensures.reads);
+      reads = Parts.broken (OneRead c.args.levels c.args.r.now c.choice.new.r c.args.t.now c.choice.new.t) c.from-residual-in_err-whole.result c.in_err-whole.field-0.0 c.from-residual-in_err-whole.ensures.1
+          (Parts.one_bracket_not c.args.levels c.args.r.now c.enter-in-Open.new.r (c.in-Some.is ∙ ap Some c.in-Open.is) c.in_ok-enter-5.ensures.enters c.enter-in-Open.ensures.on c.choice.new.r c.choice.new.r c.args.t.now c.choice.new.t c.args.t.now c.choice.new.t c.in_err-whole.field-0.0 c.in_err-whole.ensures.reads);
     }
 
-pub one-returns-in-err-take : goal.one-returns-in-err-take
-one-returns-in-err-take t c =
+pub one-returns-in_err-take : goal.one-returns-in_err-take
+one-returns-in_err-take t c =
     record {
       on = (onward c.args.r.now c.choice.new.r c.take.new.r (onward c.args.r.now c.enter-in-Open.new.r c.choice.new.r c.enter-in-Open.ensures.on c.choice.ensures.on) c.take.ensures.on);
-      reads = Parts.broken (OneRead c.args.levels c.args.r.now c.take.new.r c.args.t.now c.choice.new.t) c.from-residual-in-err-take.result c.in-err-take.field-0.0 c.from-residual-in-err-take.ensures.1
-          (Parts.one_bracket_open c.args.levels c.args.r.now c.enter-in-Open.new.r (c.in-Some.is ∙ ap Some c.in-Open.is) c.in-ok-enter-5.ensures.enters c.enter-in-Open.ensures.on c.choice.new.r c.take.new.r c.args.t.now c.choice.new.t c.args.t.now c.choice.new.t c.in-ok-whole.whole c.in-err-take.field-0.0 c.in-ok-whole.ensures.reads c.choice.ensures.on c.in-err-take.ensures.takes);
+      reads = Parts.broken (OneRead c.args.levels c.args.r.now c.take.new.r c.args.t.now c.choice.new.t) c.from-residual-in_err-take.result c.in_err-take.field-0.0 c.from-residual-in_err-take.ensures.1
+          (Parts.one_bracket_open c.args.levels c.args.r.now c.enter-in-Open.new.r (c.in-Some.is ∙ ap Some c.in-Open.is) c.in_ok-enter-5.ensures.enters c.enter-in-Open.ensures.on c.choice.new.r c.take.new.r c.args.t.now c.choice.new.t c.args.t.now c.choice.new.t c.in_ok-whole.whole c.in_err-take.field-0.0 c.in_ok-whole.ensures.reads c.choice.ensures.on c.in_err-take.ensures.takes);
     }
 
-pub one-returns-in-ok-take : goal.one-returns-in-ok-take
-one-returns-in-ok-take t c =
+pub one-returns-in_ok-take : goal.one-returns-in_ok-take
+one-returns-in_ok-take t c =
     record {
       on = (onward c.args.r.now c.choice.new.r c.take.new.r (onward c.args.r.now c.enter-in-Open.new.r c.choice.new.r c.enter-in-Open.ensures.on c.choice.ensures.on) c.take.ensures.on);
-      reads = Parts.one_bracket c.args.levels c.args.r.now c.enter-in-Open.new.r (c.in-Some.is ∙ ap Some c.in-Open.is) c.in-ok-enter-5.ensures.enters c.enter-in-Open.ensures.on c.choice.new.r c.take.new.r c.args.t.now c.choice.new.t c.in-ok-whole.whole c.in-ok-whole.ensures.reads c.choice.ensures.on c.in-ok-take.ensures.takes;
+      reads = Parts.one_bracket c.args.levels c.args.r.now c.enter-in-Open.new.r (c.in-Some.is ∙ ap Some c.in-Open.is) c.in_ok-enter-5.ensures.enters c.enter-in-Open.ensures.on c.choice.new.r c.take.new.r c.args.t.now c.choice.new.t c.in_ok-whole.whole c.in_ok-whole.ensures.reads c.choice.ensures.on c.in_ok-take.ensures.takes;
     }
 
-pub one-returns-in-err-take-2 : goal.one-returns-in-err-take-2
-one-returns-in-err-take-2 t c =
+pub one-returns-in_err-take-2 : goal.one-returns-in_err-take-2
+one-returns-in_err-take-2 t c =
     record {
       on = (onward c.args.r.now c.enter-in-Routes.new.r c.take-in-Routes.new.r c.enter-in-Routes.ensures.on c.take-in-Routes.ensures.on);
-      reads = Parts.broken (OneRead c.args.levels c.args.r.now c.take-in-Routes.new.r c.args.t.now c.args.t.now) c.from-residual-in-err-take-2.result c.in-err-take-2.field-0.0 c.from-residual-in-err-take-2.ensures.1
-          (Parts.one_until_square c.in-Routes.quantifier c.args.levels c.args.r.now c.enter-in-Routes.new.r (c.in-Some.is ∙ ap Some c.in-Routes.is) c.in-ok-enter-6.ensures.enters c.enter-in-Routes.ensures.on c.take-in-Routes.new.r c.args.t.now c.args.t.now c.in-err-take-2.field-0.0 c.in-err-take-2.ensures.takes);
+      reads = Parts.broken (OneRead c.args.levels c.args.r.now c.take-in-Routes.new.r c.args.t.now c.args.t.now) c.from-residual-in_err-take-2.result c.in_err-take-2.field-0.0 c.from-residual-in_err-take-2.ensures.1
+          (Parts.one_until_square c.in-Routes.quantifier c.args.levels c.args.r.now c.enter-in-Routes.new.r (c.in-Some.is ∙ ap Some c.in-Routes.is) c.in_ok-enter-6.ensures.enters c.enter-in-Routes.ensures.on c.take-in-Routes.new.r c.args.t.now c.args.t.now c.in_err-take-2.field-0.0 c.in_err-take-2.ensures.takes);
     }
 
-pub one-returns-in-err-p : goal.one-returns-in-err-p
-one-returns-in-err-p t c =
+pub one-returns-in_err-p : goal.one-returns-in_err-p
+one-returns-in_err-p t c =
     record {
       on = (onward c.args.r.now c.take-in-Routes.new.r c.choice-in-Routes.new.r (onward c.args.r.now c.enter-in-Routes.new.r c.take-in-Routes.new.r c.enter-in-Routes.ensures.on c.take-in-Routes.ensures.on) c.choice-in-Routes.ensures.on);
-      reads = Parts.broken (OneRead c.args.levels c.args.r.now c.choice-in-Routes.new.r c.args.t.now c.choice-in-Routes.new.t) c.from-residual-in-err-p.result c.in-err-p.field-0.0 c.from-residual-in-err-p.ensures.1
-          (Parts.one_until_first_not c.in-Routes.quantifier c.args.levels c.args.r.now c.enter-in-Routes.new.r (c.in-Some.is ∙ ap Some c.in-Routes.is) c.in-ok-enter-6.ensures.enters c.enter-in-Routes.ensures.on c.take-in-Routes.new.r c.in-ok-take-2.ensures.takes c.take-in-Routes.ensures.on c.choice-in-Routes.new.r c.choice-in-Routes.new.r c.args.t.now c.choice-in-Routes.new.t c.args.t.now c.choice-in-Routes.new.t c.in-err-p.field-0.0 c.in-err-p.ensures.reads);
+      reads = Parts.broken (OneRead c.args.levels c.args.r.now c.choice-in-Routes.new.r c.args.t.now c.choice-in-Routes.new.t) c.from-residual-in_err-p.result c.in_err-p.field-0.0 c.from-residual-in_err-p.ensures.1
+          (Parts.one_until_first_not c.in-Routes.quantifier c.args.levels c.args.r.now c.enter-in-Routes.new.r (c.in-Some.is ∙ ap Some c.in-Routes.is) c.in_ok-enter-6.ensures.enters c.enter-in-Routes.ensures.on c.take-in-Routes.new.r c.in_ok-take-2.ensures.takes c.take-in-Routes.ensures.on c.choice-in-Routes.new.r c.choice-in-Routes.new.r c.args.t.now c.choice-in-Routes.new.t c.args.t.now c.choice-in-Routes.new.t c.in_err-p.field-0.0 c.in_err-p.ensures.reads);
     }
 
-pub one-returns-in-err-take-3 : goal.one-returns-in-err-take-3
-one-returns-in-err-take-3 t c =
+pub one-returns-in_err-take-3 : goal.one-returns-in_err-take-3
+one-returns-in_err-take-3 t c =
     record {
       on = (onward c.args.r.now c.choice-in-Routes.new.r c.take-in-Routes-2.new.r (onward c.args.r.now c.take-in-Routes.new.r c.choice-in-Routes.new.r (onward c.args.r.now c.enter-in-Routes.new.r c.take-in-Routes.new.r c.enter-in-Routes.ensures.on c.take-in-Routes.ensures.on) c.choice-in-Routes.ensures.on) c.take-in-Routes-2.ensures.on);
-      reads = Parts.broken (OneRead c.args.levels c.args.r.now c.take-in-Routes-2.new.r c.args.t.now c.choice-in-Routes.new.t) c.from-residual-in-err-take-3.result c.in-err-take-3.field-0.0 c.from-residual-in-err-take-3.ensures.1
-          (Parts.one_until_missing c.in-Routes.quantifier c.args.levels c.args.r.now c.enter-in-Routes.new.r (c.in-Some.is ∙ ap Some c.in-Routes.is) c.in-ok-enter-6.ensures.enters c.enter-in-Routes.ensures.on c.take-in-Routes.new.r c.in-ok-take-2.ensures.takes c.take-in-Routes.ensures.on c.choice-in-Routes.new.r c.args.t.now c.choice-in-Routes.new.t c.in-ok-p.p c.in-ok-p.ensures.reads c.choice-in-Routes.ensures.on c.take-in-Routes-2.new.r c.args.t.now c.choice-in-Routes.new.t c.in-err-take-3.field-0.0 c.in-err-take-3.ensures.takes);
+      reads = Parts.broken (OneRead c.args.levels c.args.r.now c.take-in-Routes-2.new.r c.args.t.now c.choice-in-Routes.new.t) c.from-residual-in_err-take-3.result c.in_err-take-3.field-0.0 c.from-residual-in_err-take-3.ensures.1
+          (Parts.one_until_missing c.in-Routes.quantifier c.args.levels c.args.r.now c.enter-in-Routes.new.r (c.in-Some.is ∙ ap Some c.in-Routes.is) c.in_ok-enter-6.ensures.enters c.enter-in-Routes.ensures.on c.take-in-Routes.new.r c.in_ok-take-2.ensures.takes c.take-in-Routes.ensures.on c.choice-in-Routes.new.r c.args.t.now c.choice-in-Routes.new.t c.in_ok-p.p c.in_ok-p.ensures.reads c.choice-in-Routes.ensures.on c.take-in-Routes-2.new.r c.args.t.now c.choice-in-Routes.new.t c.in_err-take-3.field-0.0 c.in_err-take-3.ensures.takes);
     }
 
-pub one-returns-in-err-q : goal.one-returns-in-err-q
-one-returns-in-err-q t c =
+pub one-returns-in_err-q : goal.one-returns-in_err-q
+one-returns-in_err-q t c =
     record {
       on = (onward c.args.r.now c.take-in-Routes-2.new.r c.choice-in-Routes-2.new.r (onward c.args.r.now c.choice-in-Routes.new.r c.take-in-Routes-2.new.r (onward c.args.r.now c.take-in-Routes.new.r c.choice-in-Routes.new.r (onward c.args.r.now c.enter-in-Routes.new.r c.take-in-Routes.new.r c.enter-in-Routes.ensures.on c.take-in-Routes.ensures.on) c.choice-in-Routes.ensures.on) c.take-in-Routes-2.ensures.on) c.choice-in-Routes-2.ensures.on);
-      reads = Parts.broken (OneRead c.args.levels c.args.r.now c.choice-in-Routes-2.new.r c.args.t.now c.choice-in-Routes-2.new.t) c.from-residual-in-err-q.result c.in-err-q.field-0.0 c.from-residual-in-err-q.ensures.1
-          (Parts.one_until_second_not c.in-Routes.quantifier c.args.levels c.args.r.now c.enter-in-Routes.new.r (c.in-Some.is ∙ ap Some c.in-Routes.is) c.in-ok-enter-6.ensures.enters c.enter-in-Routes.ensures.on c.take-in-Routes.new.r c.in-ok-take-2.ensures.takes c.take-in-Routes.ensures.on c.choice-in-Routes.new.r c.args.t.now c.choice-in-Routes.new.t c.in-ok-p.p c.in-ok-p.ensures.reads c.choice-in-Routes.ensures.on c.take-in-Routes-2.new.r c.in-ok-take-3.ensures.takes c.take-in-Routes-2.ensures.on c.choice-in-Routes-2.new.r c.choice-in-Routes-2.new.r c.choice-in-Routes.new.t c.choice-in-Routes-2.new.t c.args.t.now c.choice-in-Routes-2.new.t c.in-err-q.field-0.0 c.in-err-q.ensures.reads);
+      reads = Parts.broken (OneRead c.args.levels c.args.r.now c.choice-in-Routes-2.new.r c.args.t.now c.choice-in-Routes-2.new.t) c.from-residual-in_err-q.result c.in_err-q.field-0.0 c.from-residual-in_err-q.ensures.1
+          (Parts.one_until_second_not c.in-Routes.quantifier c.args.levels c.args.r.now c.enter-in-Routes.new.r (c.in-Some.is ∙ ap Some c.in-Routes.is) c.in_ok-enter-6.ensures.enters c.enter-in-Routes.ensures.on c.take-in-Routes.new.r c.in_ok-take-2.ensures.takes c.take-in-Routes.ensures.on c.choice-in-Routes.new.r c.args.t.now c.choice-in-Routes.new.t c.in_ok-p.p c.in_ok-p.ensures.reads c.choice-in-Routes.ensures.on c.take-in-Routes-2.new.r c.in_ok-take-3.ensures.takes c.take-in-Routes-2.ensures.on c.choice-in-Routes-2.new.r c.choice-in-Routes-2.new.r c.choice-in-Routes.new.t c.choice-in-Routes-2.new.t c.args.t.now c.choice-in-Routes-2.new.t c.in_err-q.field-0.0 c.in_err-q.ensures.reads);
     }
 
-pub one-returns-in-err-take-4 : goal.one-returns-in-err-take-4
-one-returns-in-err-take-4 t c =
+pub one-returns-in_err-take-4 : goal.one-returns-in_err-take-4
+one-returns-in_err-take-4 t c =
     record {
       on = (onward c.args.r.now c.choice-in-Routes-2.new.r c.take-in-Routes-3.new.r (onward c.args.r.now c.take-in-Routes-2.new.r c.choice-in-Routes-2.new.r (onward c.args.r.now c.choice-in-Routes.new.r c.take-in-Routes-2.new.r (onward c.args.r.now c.take-in-Routes.new.r c.choice-in-Routes.new.r (onward c.args.r.now c.enter-in-Routes.new.r c.take-in-Routes.new.r c.enter-in-Routes.ensures.on c.take-in-Routes.ensures.on) c.choice-in-Routes.ensures.on) c.take-in-Routes-2.ensures.on) c.choice-in-Routes-2.ensures.on) c.take-in-Routes-3.ensures.on);
-      reads = Parts.broken (OneRead c.args.levels c.args.r.now c.take-in-Routes-3.new.r c.args.t.now c.choice-in-Routes-2.new.t) c.from-residual-in-err-take-4.result c.in-err-take-4.field-0.0 c.from-residual-in-err-take-4.ensures.1
-          (Parts.one_until_open c.in-Routes.quantifier c.args.levels c.args.r.now c.enter-in-Routes.new.r (c.in-Some.is ∙ ap Some c.in-Routes.is) c.in-ok-enter-6.ensures.enters c.enter-in-Routes.ensures.on c.take-in-Routes.new.r c.in-ok-take-2.ensures.takes c.take-in-Routes.ensures.on c.choice-in-Routes.new.r c.args.t.now c.choice-in-Routes.new.t c.in-ok-p.p c.in-ok-p.ensures.reads c.choice-in-Routes.ensures.on c.take-in-Routes-2.new.r c.in-ok-take-3.ensures.takes c.take-in-Routes-2.ensures.on c.choice-in-Routes-2.new.r c.choice-in-Routes-2.new.t c.in-ok-q.q c.in-ok-q.ensures.reads c.choice-in-Routes-2.ensures.on c.take-in-Routes-3.new.r c.args.t.now c.choice-in-Routes-2.new.t c.in-err-take-4.field-0.0 c.in-err-take-4.ensures.takes);
+      reads = Parts.broken (OneRead c.args.levels c.args.r.now c.take-in-Routes-3.new.r c.args.t.now c.choice-in-Routes-2.new.t) c.from-residual-in_err-take-4.result c.in_err-take-4.field-0.0 c.from-residual-in_err-take-4.ensures.1
+          (Parts.one_until_open c.in-Routes.quantifier c.args.levels c.args.r.now c.enter-in-Routes.new.r (c.in-Some.is ∙ ap Some c.in-Routes.is) c.in_ok-enter-6.ensures.enters c.enter-in-Routes.ensures.on c.take-in-Routes.new.r c.in_ok-take-2.ensures.takes c.take-in-Routes.ensures.on c.choice-in-Routes.new.r c.args.t.now c.choice-in-Routes.new.t c.in_ok-p.p c.in_ok-p.ensures.reads c.choice-in-Routes.ensures.on c.take-in-Routes-2.new.r c.in_ok-take-3.ensures.takes c.take-in-Routes-2.ensures.on c.choice-in-Routes-2.new.r c.choice-in-Routes-2.new.t c.in_ok-q.q c.in_ok-q.ensures.reads c.choice-in-Routes-2.ensures.on c.take-in-Routes-3.new.r c.args.t.now c.choice-in-Routes-2.new.t c.in_err-take-4.field-0.0 c.in_err-take-4.ensures.takes);
     }
 
-pub one-returns-in-ok-take-4 : goal.one-returns-in-ok-take-4
-one-returns-in-ok-take-4 t c =
-    let first = c.in-ok-p.ensures.reads in
-    let second = c.in-ok-q.ensures.reads in
+pub one-returns-in_ok-take-4 : goal.one-returns-in_ok-take-4
+one-returns-in_ok-take-4 t c =
+    let first = c.in_ok-p.ensures.reads in
+    let second = c.in_ok-q.ensures.reads in
     record {
       on = (onward c.args.r.now c.choice-in-Routes-2.new.r c.take-in-Routes-3.new.r (onward c.args.r.now c.take-in-Routes-2.new.r c.choice-in-Routes-2.new.r (onward c.args.r.now c.choice-in-Routes.new.r c.take-in-Routes-2.new.r (onward c.args.r.now c.take-in-Routes.new.r c.choice-in-Routes.new.r (onward c.args.r.now c.enter-in-Routes.new.r c.take-in-Routes.new.r c.enter-in-Routes.ensures.on c.take-in-Routes.ensures.on) c.choice-in-Routes.ensures.on) c.take-in-Routes-2.ensures.on) c.choice-in-Routes-2.ensures.on) c.take-in-Routes-3.ensures.on);
-      reads = Parts.one_until c.in-Routes.quantifier c.args.levels c.args.r.now c.enter-in-Routes.new.r (c.in-Some.is ∙ ap Some c.in-Routes.is) c.in-ok-enter-6.ensures.enters c.enter-in-Routes.ensures.on c.take-in-Routes.new.r c.in-ok-take-2.ensures.takes c.take-in-Routes.ensures.on c.choice-in-Routes.new.r c.args.t.now c.choice-in-Routes.new.t c.in-ok-p.p c.in-ok-p.ensures.reads c.choice-in-Routes.ensures.on c.take-in-Routes-2.new.r c.in-ok-take-3.ensures.takes c.take-in-Routes-2.ensures.on c.choice-in-Routes-2.new.r c.choice-in-Routes-2.new.t c.in-ok-q.q c.in-ok-q.ensures.reads c.choice-in-Routes-2.ensures.on c.take-in-Routes-3.new.r c.close-until.new.t c.close-until.result c.in-ok-take-4.ensures.takes
-          (added_until c.in-Routes.quantifier c.args.t.now c.choice-in-Routes.new.t c.choice-in-Routes-2.new.t c.close-until.new.t _ _ c.in-ok-p.p c.in-ok-q.q c.close-until.result
-          first.2 second.2 c.close-until.ensures.rows c.close-until.ensures.last);
+      reads = Parts.one_until c.in-Routes.quantifier c.args.levels c.args.r.now c.enter-in-Routes.new.r (c.in-Some.is ∙ ap Some c.in-Routes.is) c.in_ok-enter-6.ensures.enters c.enter-in-Routes.ensures.on c.take-in-Routes.new.r c.in_ok-take-2.ensures.takes c.take-in-Routes.ensures.on c.choice-in-Routes.new.r c.args.t.now c.choice-in-Routes.new.t c.in_ok-p.p c.in_ok-p.ensures.reads c.choice-in-Routes.ensures.on c.take-in-Routes-2.new.r c.in_ok-take-3.ensures.takes c.take-in-Routes-2.ensures.on c.choice-in-Routes-2.new.r c.choice-in-Routes-2.new.t c.in_ok-q.q c.in_ok-q.ensures.reads c.choice-in-Routes-2.ensures.on c.take-in-Routes-3.new.r c.close_until.new.t c.close_until.result c.in_ok-take-4.ensures.takes
+          (added_until c.in-Routes.quantifier c.args.t.now c.choice-in-Routes.new.t c.choice-in-Routes-2.new.t c.close_until.new.t _ _ c.in_ok-p.p c.in_ok-q.q c.close_until.result
+          first.2 second.2 c.close_until.ensures.rows c.close_until.ensures.last);
     }
 
 pub one-returns-in-default : goal.one-returns-in-default
@@ -252,6 +252,6 @@ pub both-returns : goal.both-returns
 both-returns t c =
     record {
       on = onward c.args.r.now c.one.new.r c.loop-r.r c.one.ensures.on c.loop-r.invariant.0;
-      reads = Parts.both_done c.args.levels c.args.r.now c.one.new.r c.loop-r.r c.args.t.now c.one.new.t c.loop-r.t c.in-ok-left.left c.loop-r.left c.in-ok-left.ensures.reads c.one.ensures.on
+      reads = Parts.both_done c.args.levels c.args.r.now c.one.new.r c.loop-r.r c.args.t.now c.one.new.t c.loop-r.t c.in_ok-left.left c.loop-r.left c.in_ok-left.ensures.reads c.one.ensures.on
           c.loop-r.invariant.2 c.loop-r.invariant.1 (not_from_Decides c.has.result c.has.ensures c.loop-r-test.false);
     }

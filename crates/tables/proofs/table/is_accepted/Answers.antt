@@ -29,15 +29,15 @@ taken_in K rows some few fit =
     (and_from (leb (length rows) 32) _ (le-leb (length rows) 32 few)
     (all_fit K 0 rows (λ i l. let e : 0 + i ≡ i = omega arith in ap (λ j. row_fits K j (get_or rows i no_row)) e ∙ fit i l)))
 
-pub returns-then-is-none : goal.returns-then-is-none
-returns-then-is-none c =
+pub returns-then-is_none : goal.returns-then-is_none
+returns-then-is_none c =
     sym (refused c.args.conditions c.loop-i.i c.args.table.now c.loop-i-test.true
-    (read_no c.args.conditions c.loop-i.i (get_or c.args.table.now c.loop-i.i no_row) c.read-row.result c.read-row.ensures c.if-is-none.ensures))
+    (read_no c.args.conditions c.loop-i.i (get_or c.args.table.now c.loop-i.i no_row) c.read_row.result c.read_row.ensures c.if-is_none.ensures))
 
 pub loop-i-preserved : goal.loop-i-preserved
 loop-i-preserved c =
-    below_more _ _ c.loop-i.invariant (read_yes c.args.conditions c.loop-i.i (get_or c.args.table.now c.loop-i.i no_row) c.read-row.result c.read-row.ensures c.if-is-none.ensures)
+    below_more _ _ c.loop-i.invariant (read_yes c.args.conditions c.loop-i.i (get_or c.args.table.now c.loop-i.i no_row) c.read_row.result c.read_row.ensures c.if-is_none.ensures)
 
 pub returns : goal.returns
 returns c =
-    sym (taken_in c.args.conditions c.args.table.now (omega arith) c.if-table-gt-MOST-ROWS.false (λ i l. c.loop-i.invariant i (omega arith)))
+    sym (taken_in c.args.conditions c.args.table.now (omega arith) c.if-table-gt-MOST_ROWS.false (λ i l. c.loop-i.invariant i (omega arith)))

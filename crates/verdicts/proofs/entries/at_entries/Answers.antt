@@ -8,7 +8,7 @@ use Rattle.judging.proofs.Covers.{covers_read, covers_at}
 use Rattle.judging.proofs.Rows.{guard_true, setting_below}
 use Rattle.verdicts.specs.Verdicts.{Entry}
 use Rattle.verdicts.proofs.entries.at_entries.Goals as goal
-use Rattle.verdicts.proofs.entries.at_entries.Goals.{then-is-entry+in-default, else-is-entry}
+use Rattle.verdicts.proofs.entries.at_entries.Goals.{then-is_entry+in-default, else-is_entry}
 
 -- What the complement of a set has.
 outside : (K : ℕ) (held failing covered : ℕ → Bool) → ((a : ℕ) → failing a ≡ (ltb a (2 ^ K) && not (held a))) → ((a : ℕ) → covered a ≡ held a)
@@ -35,7 +35,7 @@ returns-in-Some g c =
     (λ b. covers_read holds part (at b) held c.loop-place-test.true c.index-part-place.is) a) in
     record {
       inside = omega arith;
-      entry = sym c.is-entry.ensures ∙ c.if-is-entry.true;
+      entry = sym c.is_entry.ensures ∙ c.if-is_entry.true;
       earlier = c.loop-place.invariant;
       picked = picked_like (λ a. holds c.complement-failing.result a ≡ true) P c.in-Some.setting likeness c.in-Some.ensures;
     }
@@ -48,13 +48,13 @@ loop-place-preserved g c = λ x w below entry.
     let part = c.args.part.now in
     let s = c.loop-place.place in
     ⊎_elim
-    (λ e. elim c.if-is-entry.branch [
-      | then-is-entry+in-default v ↦
+    (λ e. elim c.if-is_entry.branch [
+      | then-is_entry+in-default v ↦
           let held = v.index-part-place.result in
           let inside : ltb x.setting (2 ^ K) ≡ true = lt-ltb x.setting (2 ^ K) (setting_below N K c.requires.over x w) in
           covers_at holds part x s held e c.loop-place-test.true v.index-part-place.is
           ∙ not-false (holds held x.setting) (sym (guard_true _ (not (holds held x.setting)) inside) ∙ sym (v.complement-failing.ensures x.setting) ∙ v.in-default.ensures x.setting)
-      | else-is-entry v ↦ absurd (false≢true (sym v.if-is-entry.false ∙ c.is-entry.ensures ∙ subst (Entry N) e entry))
+      | else-is_entry v ↦ absurd (false≢true (sym v.if-is_entry.false ∙ c.is_entry.ensures ∙ subst (Entry N) e entry))
     ])
     (λ ne. c.loop-place.invariant x w (omega arith) entry)
     (cases_eq x.place s)

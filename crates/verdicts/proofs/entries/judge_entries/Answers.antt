@@ -10,12 +10,12 @@ use Rattle.verdicts.specs.Verdicts.{Told}
 use Rattle.verdicts.proofs.Verdicts.{ready, told_alike}
 use Rattle.verdicts.proofs.entries.judge_entries.Goals as goal
 
-pub at-entries-verdict-requires : goal.at-entries-verdict-requires
-at-entries-verdict-requires g c =
+pub at_entries-verdict-requires : goal.at_entries-verdict-requires
+at_entries-verdict-requires g c =
     let N : Net = g.N.Network.meaning c.args.net.now in
     let rows = c.args.table.now in
     let n = c.places-n.result in
-    let r = ready N rows (length c.args.main.now) (length c.args.spare.now) c.in-ok-rounds.ensures.0 in
+    let r = ready N rows (length c.args.main.now) (length c.args.spare.now) c.in_ok-rounds.ensures.0 in
     let last : length rows - 1 < length rows = (let some = accepted_some N.conditions rows r.taken in omega arith) in
     let ends : (length rows - 1) * n + n ≤ length rows * n = part_before (length rows - 1) (length rows) n last in
     let room : length rows * n ≤ length c.judge.new.main = subst (λ (m : ℕ). length rows * m ≤ length c.judge.new.main) (sym c.places-n.ensures.value) (let k = c.judge.auto.main in let m = r.room in omega arith) in
@@ -27,9 +27,9 @@ returns g c =
     let N : Net = g.N.Network.meaning c.args.net.now in
     let rows = c.args.table.now in
     let i : ℕ = length rows - 1 in
-    let e = c.in-ok-rounds.ensures in
+    let e = c.in_ok-rounds.ensures in
     let r = ready N rows (length c.args.main.now) (length c.args.spare.now) e.0 in
     let last : i < length rows = (let some = accepted_some N.conditions rows r.taken in omega arith) in
-    let told : Told N (Is (covers holds (row_part (places N) i c.judge.new.main))) c.at-entries-verdict.result =
-    subst (λ (m : ℕ). Told N (Is (covers holds (row_part m i c.judge.new.main))) c.at-entries-verdict.result) c.places-n.ensures.value c.at-entries-verdict.ensures in
-    (e.0, e.1, told_alike N (Is (covers holds (row_part (places N) i c.judge.new.main))) (Means N (rule_at rows i)) (e.1.written i last) c.at-entries-verdict.result told)
+    let told : Told N (Is (covers holds (row_part (places N) i c.judge.new.main))) c.at_entries-verdict.result =
+    subst (λ (m : ℕ). Told N (Is (covers holds (row_part m i c.judge.new.main))) c.at_entries-verdict.result) c.places-n.ensures.value c.at_entries-verdict.ensures in
+    (e.0, e.1, told_alike N (Is (covers holds (row_part (places N) i c.judge.new.main))) (Means N (rule_at rows i)) (e.1.written i last) c.at_entries-verdict.result told)

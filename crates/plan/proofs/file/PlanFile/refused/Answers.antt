@@ -4,9 +4,9 @@ use Rattle.plan.specs.Contents.{rule_byte, listed}
 use Rattle.plan.specs.Shape.{shape_fault, lengths_fault, ends_fault}
 use Rattle.plan.proofs.file.PlanFile.refused.Goals as goal
 
-pub invariant-of-result : goal.invariant-of-result
+pub invariant_of-result : goal.invariant_of-result
 unfolding number_of rule_byte listed shape_fault lengths_fault ends_fault
-invariant-of-result c = (refl, (refl, (refl, (refl, (omega arith, (omega arith, (omega arith, (refl, (∣ (λ i below. absurd (omega arith)) ∣₁, tt)))))))))
+invariant_of-result c = (refl, (refl, (refl, (refl, (omega arith, (omega arith, (omega arith, (refl, (∣ (λ i below. absurd (omega arith)) ∣₁, tt)))))))))
 
 pub returns : goal.returns
 unfolding number_of rule_byte listed

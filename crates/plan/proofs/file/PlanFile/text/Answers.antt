@@ -11,20 +11,20 @@ returns-then-rule-self c =
     let are = c.args.self.now.rules_are in
     sym (nth_past (rule_count file) (text_at file) c.args.rule (omega arith))
 
-pub rule-byte-requires : goal.rule-byte-requires
-rule-byte-requires c = let are = c.args.self.now.rules_are in record { shaped = c.args.self.now.shaped; few = omega arith }
+pub rule_byte-requires : goal.rule_byte-requires
+rule_byte-requires c = let are = c.args.self.now.rules_are in record { shaped = c.args.self.now.shaped; few = omega arith }
 
-pub text-of-requires : goal.text-of-requires
-text-of-requires c =
+pub text_of-requires : goal.text_of-requires
+text_of-requires c =
     let file = c.args.self.now.bytes.now in
     let are = c.args.self.now.rules_are in
     let inside = text_inside _ file (shaped_of file c.args.self.now.shaped) c.args.rule (omega arith) in
-    let same = ap (λ (b : ℕ). field 2 b file) c.rule-byte.ensures in
+    let same = ap (λ (b : ℕ). field 2 b file) c.rule_byte.ensures in
     omega arith
 
 pub returns : goal.returns
 returns c =
     let file = c.args.self.now.bytes.now in
     let are = c.args.self.now.rules_are in
-    let text = c.text-of.ensures.0 ∙ ap (λ (b : ℕ). take (field 2 b file) (drop (b + 2) file)) c.rule-byte.ensures in
+    let text = c.text_of.ensures.0 ∙ ap (λ (b : ℕ). take (field 2 b file) (drop (b + 2) file)) c.rule_byte.ensures in
     ap Some text ∙ sym (nth_listed (rule_count file) (text_at file) c.args.rule (omega arith))

@@ -37,10 +37,10 @@ loop-b-preserved g c =
 whole : {S : Type 0} (n i : ℕ) (records : List (Binding S)) → length records ≤ i → all_inside n (take i records) ≡ true → all_inside n records ≡ true
 whole n i records past h = subst (λ (bs : List (Binding _)). all_inside n bs ≡ true) (take_all i records past) h
 
-pub invariant-of-result : goal.invariant-of-result
-invariant-of-result g c = (
-  c.if-marks-gt-MOST-PLACES.false,
-  (c.if-records-gt-MOST-BINDINGS.false, (whole _ c.loop-b.b-index c.args.records.now c.loop-b-test.false c.loop-b.invariant, tt)),
+pub invariant_of-result : goal.invariant_of-result
+invariant_of-result g c = (
+  c.if-marks-gt-MOST_PLACES.false,
+  (c.if-records-gt-MOST_BINDINGS.false, (whole _ c.loop-b.b-index c.args.records.now c.loop-b-test.false c.loop-b.invariant, tt)),
 )
 
 pub returns : goal.returns

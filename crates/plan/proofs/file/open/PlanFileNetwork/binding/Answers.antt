@@ -31,9 +31,9 @@ returns c =
     let file = c.args.self.now.bytes.now in
     let are = c.args.self.now.bindings_are in
     let places = c.args.self.now.places_are in
-    let is = bound file c.args.number c.field-of-2.result c.field-of-2-2.result c.field-of-8.result c.rules-byte-byte.result
-    (omega arith) c.field-of-2.ensures c.field-of-2-2.ensures c.field-of-8.ensures in
-    let at : slice_get (listed (binding_count file) (binding_at file)) c.args.number ≡ Some (record { from = c.field-of-2.result; to = c.field-of-2-2.result; set = record { 0 = c.field-of-8.result } }) =
+    let is = bound file c.args.number c.field_of_2.result c.field_of_2-2.result c.field_of_8.result c.rules_byte-byte.result
+    (omega arith) c.field_of_2.ensures c.field_of_2-2.ensures c.field_of_8.ensures in
+    let at : slice_get (listed (binding_count file) (binding_at file)) c.args.number ≡ Some (record { from = c.field_of_2.result; to = c.field_of_2-2.result; set = record { 0 = c.field_of_8.result } }) =
     nth_listed (binding_count file) (binding_at file) c.args.number (omega arith) ∙ ap Some is in
     let link = nth_link word_holds _ c.args.number _ at in
     let inside = link_inside word_holds (place_count file) (listed (binding_count file) (binding_at file)) c.args.self.now.ends c.args.number _ link in
