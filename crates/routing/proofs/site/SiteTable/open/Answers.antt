@@ -38,10 +38,11 @@ whole : {S : Type 0} (n i : ℕ) (records : List (Binding S)) → length records
 whole n i records past h = subst (λ (bs : List (Binding _)). all_inside n bs ≡ true) (take_all i records past) h
 
 pub invariant_of-result : goal.invariant_of-result
-invariant_of-result g c = (
-  c.if-marks-gt-MOST_PLACES.false,
-  (c.if-records-gt-MOST_BINDINGS.false, (whole _ c.loop-b.b-index c.args.records.now c.loop-b-test.false c.loop-b.invariant, tt)),
-)
+invariant_of-result g c = record {
+  few_places = c.if-marks-gt-MOST_PLACES.false;
+  few_bindings = c.if-records-gt-MOST_BINDINGS.false;
+  ends = whole _ c.loop-b.b-index c.args.records.now c.loop-b-test.false c.loop-b.invariant;
+}
 
 pub returns : goal.returns
 returns g c = (
