@@ -30,10 +30,10 @@ pub(crate) fn walk_within<N: Network>(
     start: RouteStep,
     steps: &mut [RouteStep],
 ) -> Shown
-    requires over { (meaning net.now).conditions ≡ N.Set.ConditionSet.count }
-    requires long { length sets.now ≡ places (meaning net.now) }
-    requires room { places (meaning net.now) + 1 ≤ length steps.old }
-    ensures { Written (walk_always (meaning net.now) (covers N.Set.ConditionSet.holds sets.now) (places (meaning net.now) + 1) [] (as_pos start)) steps.old steps.new result }
+    requires over { (N.meaning net.now).conditions ≡ N.Set.ConditionSet.count }
+    requires long { length sets.now ≡ places (N.meaning net.now) }
+    requires room { places (N.meaning net.now) + 1 ≤ length steps.old }
+    ensures { Written (walk_always (N.meaning net.now) (covers N.Set.ConditionSet.holds sets.now) (places (N.meaning net.now) + 1) [] (as_pos start)) steps.old steps.new result }
 {
     let n = net.places();
     let mut at = start;

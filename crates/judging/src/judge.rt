@@ -18,9 +18,9 @@ fn judge_rows<N: Network>(
     main: &mut [N::Set],
     spare: &mut [N::Set],
 ) -> usize
-    requires taken { accepted (meaning net.now).conditions table.now ≡ true }
-    requires room { (length table.now * places (meaning net.now) ≤ length main.old) × (2 * places (meaning net.now) ≤ length spare.old) }
-    ensures { Judged N.Set.ConditionSet.holds (meaning net.now) table.now main.old main.new result }
+    requires taken { accepted (N.meaning net.now).conditions table.now ≡ true }
+    requires room { (length table.now * places (N.meaning net.now) ≤ length main.old) × (2 * places (N.meaning net.now) ≤ length spare.old) }
+    ensures { Judged N.Set.ConditionSet.holds (N.meaning net.now) table.now main.old main.new result }
 {
     let conditions = net.conditions();
     let mut rounds = 0;
@@ -42,7 +42,7 @@ pub fn judge<N: Network>(
     main: &mut [N::Set],
     spare: &mut [N::Set],
 ) -> Result<usize, Refusal>
-    ensures { MatchResult result (λ rounds. (judge_refusal (meaning net.now) table.now (length main.old) (length spare.old) ≡ None) × Judged N.Set.ConditionSet.holds (meaning net.now) table.now main.old main.new rounds) (λ e. (judge_refusal (meaning net.now) table.now (length main.old) (length spare.old) ≡ Some e) × (main.new ≡ main.old) × (spare.new ≡ spare.old)) }
+    ensures { MatchResult result (λ rounds. (judge_refusal (N.meaning net.now) table.now (length main.old) (length spare.old) ≡ None) × Judged N.Set.ConditionSet.holds (N.meaning net.now) table.now main.old main.new rounds) (λ e. (judge_refusal (N.meaning net.now) table.now (length main.old) (length spare.old) ≡ Some e) × (main.new ≡ main.old) × (spare.new ≡ spare.old)) }
 {
     if !is_accepted(table, net.conditions()) {
         return Err(Refusal::BadTable);

@@ -11,9 +11,9 @@ use routing::network::Network;
 
 // The position to which the first binding that fits leads from `at` into the sets.
 pub(crate) fn next_into<N: Network>(net: &N, sets: &[N::Set], at: RouteStep) -> Option<RouteStep>
-    requires over { (meaning net.now).conditions ≡ N.Set.ConditionSet.count }
-    requires long { length sets.now ≡ places (meaning net.now) }
-    ensures { result ≡ as_next (next_in (meaning net.now) (covers N.Set.ConditionSet.holds sets.now) (as_pos at)) }
+    requires over { (N.meaning net.now).conditions ≡ N.Set.ConditionSet.count }
+    requires long { length sets.now ≡ places (N.meaning net.now) }
+    ensures { result ≡ as_next (next_in (N.meaning net.now) (covers N.Set.ConditionSet.holds sets.now) (as_pos at)) }
 {
     for i in 0..net.bindings() {
         if let Some(b) = net.binding(i) {

@@ -7,7 +7,7 @@ ghost use Rattle.judging.specs.Chosen.{entering, least_from};
 ghost use Rattle.judging.specs.Notes.{never, round_at, setting_at, Noted};
 ghost use Rattle.judging.specs.Steps.{as_pos};
 
-use crate::rounds::steps_into;
+use crate::row_rounds::steps_into;
 use crate::sets::grow;
 use crate::shown::RouteStep;
 use conditions::set::ConditionSet;
@@ -23,11 +23,11 @@ fn note<N: Network>(
     rounds: &mut [usize],
     settings: &mut [u32],
 )
-    requires over { (meaning net.now).conditions ≡ N.Set.ConditionSet.count }
-    requires long { length sets.now ≡ places (meaning net.now) }
+    requires over { (N.meaning net.now).conditions ≡ N.Set.ConditionSet.count }
+    requires long { length sets.now ≡ places (N.meaning net.now) }
     requires room { (length sets.now ≤ length rounds.old) × (length sets.now ≤ length settings.old) }
-    ensures rounds { (t : ℕ) → t < length sets.now → slice_index rounds.new t ≡ round_at (slice_index rounds.old t) (entering (meaning net.now) (covers N.Set.ConditionSet.holds sets.now) t) round }
-    ensures settings { (t : ℕ) → t < length sets.now → slice_index settings.new t ≡ setting_at (slice_index rounds.old t) (slice_index settings.old t) (entering (meaning net.now) (covers N.Set.ConditionSet.holds sets.now) t) }
+    ensures rounds { (t : ℕ) → t < length sets.now → slice_index rounds.new t ≡ round_at (slice_index rounds.old t) (entering (N.meaning net.now) (covers N.Set.ConditionSet.holds sets.now) t) round }
+    ensures settings { (t : ℕ) → t < length sets.now → slice_index settings.new t ≡ setting_at (slice_index rounds.old t) (slice_index settings.old t) (entering (N.meaning net.now) (covers N.Set.ConditionSet.holds sets.now) t) }
 {
     for t in 0..sets.len() {
         let set = sets[t];
@@ -51,13 +51,13 @@ pub(crate) fn note_rounds<N: Network>(
     rounds: &mut [usize],
     settings: &mut [u32],
 ) -> Option<usize>
-    requires over { (meaning net.now).conditions ≡ N.Set.ConditionSet.count }
-    requires lengths { (length part.old ≡ places (meaning net.now)) × ((length p.now ≡ places (meaning net.now)) × (length into.old ≡ places (meaning net.now))) }
-    requires room { (places (meaning net.now) ≤ length rounds.old) × (places (meaning net.now) ≤ length settings.old) }
-    requires inside { Within (meaning net.now) (as_pos start) }
-    requires fresh { (t : ℕ) → t < places (meaning net.now) → slice_index rounds.old t ≡ never }
-    ensures hops { result ≡ least_from (suc (places (meaning net.now))) 0 (λ i. grown (meaning net.now) (covers N.Set.ConditionSet.holds p.now) (covers N.Set.ConditionSet.holds part.old) i (as_pos start)) }
-    ensures notes { IfSome result (λ d. Noted (meaning net.now) (grown (meaning net.now) (covers N.Set.ConditionSet.holds p.now) (covers N.Set.ConditionSet.holds part.old)) d rounds.new settings.new) }
+    requires over { (N.meaning net.now).conditions ≡ N.Set.ConditionSet.count }
+    requires lengths { (length part.old ≡ places (N.meaning net.now)) × ((length p.now ≡ places (N.meaning net.now)) × (length into.old ≡ places (N.meaning net.now))) }
+    requires room { (places (N.meaning net.now) ≤ length rounds.old) × (places (N.meaning net.now) ≤ length settings.old) }
+    requires inside { Within (N.meaning net.now) (as_pos start) }
+    requires fresh { (t : ℕ) → t < places (N.meaning net.now) → slice_index rounds.old t ≡ never }
+    ensures hops { result ≡ least_from (suc (places (N.meaning net.now))) 0 (λ i. grown (N.meaning net.now) (covers N.Set.ConditionSet.holds p.now) (covers N.Set.ConditionSet.holds part.old) i (as_pos start)) }
+    ensures notes { IfSome result (λ d. Noted (N.meaning net.now) (grown (N.meaning net.now) (covers N.Set.ConditionSet.holds p.now) (covers N.Set.ConditionSet.holds part.old)) d rounds.new settings.new) }
 {
     let n = net.places();
     for round in 0..n + 1 {

@@ -34,7 +34,7 @@ fn refused<N: Network>(
     spare: usize,
     steps: usize,
 ) -> Option<Refusal>
-    ensures { result ≡ route_refusal (meaning net.now) table.now row (as_pos at) main spare steps }
+    ensures { result ≡ route_refusal (N.meaning net.now) table.now row (as_pos at) main spare steps }
 {
     if !is_accepted(table, net.conditions()) {
         return Some(Refusal::BadTable);
@@ -66,7 +66,7 @@ pub fn route<N: Network>(
     spare: &mut [N::Set],
     steps: &mut [RouteStep],
 ) -> Result<Shown, Refusal>
-    ensures { MatchResult result (λ s. (route_refusal (meaning net.now) table.now row (as_pos at) (length main.old) (length spare.old) (length steps.old) ≡ None) × Written (chosen (meaning net.now) (rule_at table.now row) (as_pos at)) steps.old steps.new s × Trail (meaning net.now) (as_pos at) (chosen (meaning net.now) (rule_at table.now row) (as_pos at)).positions × Shows (meaning net.now) (rule_at table.now row) (as_pos at) (chosen (meaning net.now) (rule_at table.now row) (as_pos at)).positions s.ending) (λ e. (steps.new ≡ steps.old) × (((route_refusal (meaning net.now) table.now row (as_pos at) (length main.old) (length spare.old) (length steps.old) ≡ Some e) × (main.new ≡ main.old) × (spare.new ≡ spare.old)) ⊎ ((route_refusal (meaning net.now) table.now row (as_pos at) (length main.old) (length spare.old) (length steps.old) ≡ None) × (e ≡ RowFails) × (Means (meaning net.now) (rule_at table.now row) (as_pos at) → ⊥)))) }
+    ensures { MatchResult result (λ s. (route_refusal (N.meaning net.now) table.now row (as_pos at) (length main.old) (length spare.old) (length steps.old) ≡ None) × Written (chosen (N.meaning net.now) (rule_at table.now row) (as_pos at)) steps.old steps.new s × Trail (N.meaning net.now) (as_pos at) (chosen (N.meaning net.now) (rule_at table.now row) (as_pos at)).positions × Shows (N.meaning net.now) (rule_at table.now row) (as_pos at) (chosen (N.meaning net.now) (rule_at table.now row) (as_pos at)).positions s.ending) (λ e. (steps.new ≡ steps.old) × (((route_refusal (N.meaning net.now) table.now row (as_pos at) (length main.old) (length spare.old) (length steps.old) ≡ Some e) × (main.new ≡ main.old) × (spare.new ≡ spare.old)) ⊎ ((route_refusal (N.meaning net.now) table.now row (as_pos at) (length main.old) (length spare.old) (length steps.old) ≡ None) × (e ≡ RowFails) × (Means (N.meaning net.now) (rule_at table.now row) (as_pos at) → ⊥)))) }
 {
     if let Some(refusal) = refused(net, table, row, at, main.len(), spare.len(), steps.len()) {
         return Err(refusal);

@@ -19,10 +19,10 @@ use tables::row::Operation;
 
 // Shows one step into the sets.
 fn show_next<N: Network>(net: &N, sets: &[N::Set], at: RouteStep, steps: &mut [RouteStep]) -> Shown
-    requires over { (meaning net.now).conditions ≡ N.Set.ConditionSet.count }
-    requires long { length sets.now ≡ places (meaning net.now) }
+    requires over { (N.meaning net.now).conditions ≡ N.Set.ConditionSet.count }
+    requires long { length sets.now ≡ places (N.meaning net.now) }
     requires room { 2 ≤ length steps.old }
-    ensures { Written (chosen_next (as_pos at) (next_in (meaning net.now) (covers N.Set.ConditionSet.holds sets.now) (as_pos at))) steps.old steps.new result }
+    ensures { Written (chosen_next (as_pos at) (next_in (N.meaning net.now) (covers N.Set.ConditionSet.holds sets.now) (as_pos at))) steps.old steps.new result }
 {
     steps[0] = at;
     match next_into(net, sets, at) {
@@ -55,11 +55,11 @@ fn walk_until<N: Network>(
     at: RouteStep,
     steps: &mut [RouteStep],
 ) -> Shown
-    requires over { (meaning net.now).conditions ≡ N.Set.ConditionSet.count }
-    requires lengths { (length part.old ≡ places (meaning net.now)) × ((length p.now ≡ places (meaning net.now)) × (length into.old ≡ places (meaning net.now))) }
-    requires inside { Within (meaning net.now) (as_pos at) }
-    requires room { places (meaning net.now) + 1 ≤ length steps.old }
-    ensures { Written (chosen_until (meaning net.now) (covers N.Set.ConditionSet.holds p.now) (covers N.Set.ConditionSet.holds part.old) (as_pos at)) steps.old steps.new result }
+    requires over { (N.meaning net.now).conditions ≡ N.Set.ConditionSet.count }
+    requires lengths { (length part.old ≡ places (N.meaning net.now)) × ((length p.now ≡ places (N.meaning net.now)) × (length into.old ≡ places (N.meaning net.now))) }
+    requires inside { Within (N.meaning net.now) (as_pos at) }
+    requires room { places (N.meaning net.now) + 1 ≤ length steps.old }
+    ensures { Written (chosen_until (N.meaning net.now) (covers N.Set.ConditionSet.holds p.now) (covers N.Set.ConditionSet.holds part.old) (as_pos at)) steps.old steps.new result }
 {
     let mut rounds = [NEVER; 256];
     let mut settings = [0u32; 256];
@@ -83,11 +83,11 @@ fn show_until<N: Network>(
     spare: &mut [N::Set],
     steps: &mut [RouteStep],
 ) -> Shown
-    requires over { (meaning net.now).conditions ≡ N.Set.ConditionSet.count }
+    requires over { (N.meaning net.now).conditions ≡ N.Set.ConditionSet.count }
     requires earlier { (p < row) × (q < row) }
-    requires inside { Within (meaning net.now) (as_pos at) }
-    requires room { (row * places (meaning net.now) + places (meaning net.now) ≤ length main.old) × ((2 * places (meaning net.now) ≤ length spare.old) × (places (meaning net.now) + 1 ≤ length steps.old)) }
-    ensures { Written (chosen_until (meaning net.now) (covers N.Set.ConditionSet.holds (row_part (places (meaning net.now)) p main.old)) (covers N.Set.ConditionSet.holds (row_part (places (meaning net.now)) q main.old)) (as_pos at)) steps.old steps.new result }
+    requires inside { Within (N.meaning net.now) (as_pos at) }
+    requires room { (row * places (N.meaning net.now) + places (N.meaning net.now) ≤ length main.old) × ((2 * places (N.meaning net.now) ≤ length spare.old) × (places (N.meaning net.now) + 1 ≤ length steps.old)) }
+    ensures { Written (chosen_until (N.meaning net.now) (covers N.Set.ConditionSet.holds (row_part (places (N.meaning net.now)) p main.old)) (covers N.Set.ConditionSet.holds (row_part (places (N.meaning net.now)) q main.old)) (as_pos at)) steps.old steps.new result }
 {
     let n = net.places();
     let (first, rest) = spare.split_at_mut(n);
@@ -110,9 +110,9 @@ fn part_of<S: ConditionSet>(main: &[S], row: usize, places: usize) -> &[S]
 
 // Whether a judged row has the position.
 pub(crate) fn holds_at<N: Network>(net: &N, main: &[N::Set], row: usize, at: RouteStep) -> bool
-    requires room { row * places (meaning net.now) + places (meaning net.now) ≤ length main.now }
-    requires inside { at.place < places (meaning net.now) }
-    ensures { result ≡ covers N.Set.ConditionSet.holds (row_part (places (meaning net.now)) row main.now) (as_pos at) }
+    requires room { row * places (N.meaning net.now) + places (N.meaning net.now) ≤ length main.now }
+    requires inside { at.place < places (N.meaning net.now) }
+    ensures { result ≡ covers N.Set.ConditionSet.holds (row_part (places (N.meaning net.now)) row main.now) (as_pos at) }
 {
     let part = part_of(main, row, net.places());
     let set = part[at.place];
@@ -129,11 +129,11 @@ pub(crate) fn show_row<N: Network>(
     spare: &mut [N::Set],
     steps: &mut [RouteStep],
 ) -> Shown
-    requires over { (meaning net.now).conditions ≡ N.Set.ConditionSet.count }
+    requires over { (N.meaning net.now).conditions ≡ N.Set.ConditionSet.count }
     requires earlier { ((first_is_row op ≡ true → (coded op).first < row)) × ((second_is_row op ≡ true → (coded op).second < row)) }
-    requires inside { Within (meaning net.now) (as_pos at) }
-    requires room { (row * places (meaning net.now) + places (meaning net.now) ≤ length main.old) × ((2 * places (meaning net.now) ≤ length spare.old) × (places (meaning net.now) + 1 ≤ length steps.old)) }
-    ensures { Written (chosen_by (meaning net.now) op (covers N.Set.ConditionSet.holds (row_part (places (meaning net.now)) (coded op).first main.old)) (covers N.Set.ConditionSet.holds (row_part (places (meaning net.now)) (coded op).second main.old)) (covers N.Set.ConditionSet.holds (row_part (places (meaning net.now)) row main.old)) (as_pos at)) steps.old steps.new result }
+    requires inside { Within (N.meaning net.now) (as_pos at) }
+    requires room { (row * places (N.meaning net.now) + places (N.meaning net.now) ≤ length main.old) × ((2 * places (N.meaning net.now) ≤ length spare.old) × (places (N.meaning net.now) + 1 ≤ length steps.old)) }
+    ensures { Written (chosen_by (N.meaning net.now) op (covers N.Set.ConditionSet.holds (row_part (places (N.meaning net.now)) (coded op).first main.old)) (covers N.Set.ConditionSet.holds (row_part (places (N.meaning net.now)) (coded op).second main.old)) (covers N.Set.ConditionSet.holds (row_part (places (N.meaning net.now)) row main.old)) (as_pos at)) steps.old steps.new result }
 {
     let n = net.places();
     match op {

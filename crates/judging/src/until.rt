@@ -17,8 +17,8 @@ fn nearest<N: Network>(
     by: usize,
     at: RouteStep,
 ) -> Option<RouteStep>
-    requires room { (places (meaning net.now) ≤ length rounds.now) × (places (meaning net.now) ≤ length settings.now) }
-    ensures { result ≡ as_next (noted_next (meaning net.now) rounds.now settings.now by (as_pos at)) }
+    requires room { (places (N.meaning net.now) ≤ length rounds.now) × (places (N.meaning net.now) ≤ length settings.now) }
+    ensures { result ≡ as_next (noted_next (N.meaning net.now) rounds.now settings.now by (as_pos at)) }
 {
     for i in 0..net.bindings() {
         if let Some(b) = net.binding(i) {
@@ -45,9 +45,9 @@ pub(crate) fn walk_down<N: Network>(
     hops: usize,
     steps: &mut [RouteStep],
 ) -> Shown
-    requires room { (places (meaning net.now) ≤ length rounds.now) × (places (meaning net.now) ≤ length settings.now) }
+    requires room { (places (N.meaning net.now) ≤ length rounds.now) × (places (N.meaning net.now) ≤ length settings.now) }
     requires list { hops < length steps.old }
-    ensures { Written (record { positions = walk_noted (meaning net.now) rounds.now settings.now hops (as_pos start); ending = Reaches }) steps.old steps.new result }
+    ensures { Written (record { positions = walk_noted (N.meaning net.now) rounds.now settings.now hops (as_pos start); ending = Reaches }) steps.old steps.new result }
 {
     let mut at = start;
     for count in 0..hops {

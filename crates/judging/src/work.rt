@@ -8,7 +8,7 @@ ghost use Rattle.tables.specs.Tables.{coded};
 ghost use Rattle.judging.specs.Judged.{covers, row_part};
 ghost use Rattle.judging.specs.Shapes.{Shape, Rounds, Named, first_is_row, second_is_row};
 
-use crate::rounds::{always_rounds, steps_into, until_rounds};
+use crate::row_rounds::{always_rounds, steps_into, until_rounds};
 use crate::sets::{complement_all, fill, grow, shrink};
 use conditions::set::ConditionSet;
 use routing::network::Network;
@@ -17,7 +17,7 @@ use tables::row::Operation;
 // Whether a place has mark k.
 fn has_mark<N: Network>(net: &N, place: usize, k: u8) -> bool
     requires { k < 32 }
-    ensures { result ≡ bit (slice_index (meaning net.now).marks place) k }
+    ensures { result ≡ bit (slice_index (N.meaning net.now).marks place) k }
 {
     match net.marks(place) {
         Some(marks) => marks >> k & 1 == 1,
@@ -28,7 +28,7 @@ fn has_mark<N: Network>(net: &N, place: usize, k: u8) -> bool
 // Writes all settings to the places with mark k, and none to the others.
 fn write_mark<N: Network>(net: &N, k: u8, part: &mut [N::Set])
     requires { k < 32 }
-    ensures { (x : Pos) → x.place < length part.old → covers N.Set.ConditionSet.holds part.new x ≡ (bit (slice_index (meaning net.now).marks x.place) k && nat_lt x.setting (2 ^ N.Set.ConditionSet.count)) }
+    ensures { (x : Pos) → x.place < length part.old → covers N.Set.ConditionSet.holds part.new x ≡ (bit (slice_index (N.meaning net.now).marks x.place) k && nat_lt x.setting (2 ^ N.Set.ConditionSet.count)) }
 {
     let (all, none) = (N::Set::all(), N::Set::none());
     for i in 0..part.len() {
@@ -48,9 +48,9 @@ fn write_condition<S: ConditionSet>(part: &mut [S], k: u8)
 
 // Writes the settings under which no step leads from a place; `part` is used on the way.
 fn write_rests<N: Network>(net: &N, part: &mut [N::Set], out: &mut [N::Set])
-    requires over { (meaning net.now).conditions ≡ N.Set.ConditionSet.count }
-    requires lengths { (length part.old ≡ places (meaning net.now)) × (length out.old ≡ places (meaning net.now)) }
-    ensures { Decided (meaning net.now) (covers N.Set.ConditionSet.holds out.new) (Rests (meaning net.now)) }
+    requires over { (N.meaning net.now).conditions ≡ N.Set.ConditionSet.count }
+    requires lengths { (length part.old ≡ places (N.meaning net.now)) × (length out.old ≡ places (N.meaning net.now)) }
+    ensures { Decided (N.meaning net.now) (covers N.Set.ConditionSet.holds out.new) (Rests (N.meaning net.now)) }
 {
     fill(part, N::Set::all());
     steps_into(net, part, out);
@@ -65,12 +65,12 @@ fn work_row<N: Network>(
     first: &mut [N::Set],
     second: &mut [N::Set],
 ) -> usize
-    requires over { (meaning net.now).conditions ≡ N.Set.ConditionSet.count }
-    requires lengths { (length part.old ≡ places (meaning net.now)) × ((length first.old ≡ places (meaning net.now)) × (length second.old ≡ places (meaning net.now))) }
+    requires over { (N.meaning net.now).conditions ≡ N.Set.ConditionSet.count }
+    requires lengths { (length part.old ≡ places (N.meaning net.now)) × ((length first.old ≡ places (N.meaning net.now)) × (length second.old ≡ places (N.meaning net.now))) }
     requires named { Named N.Set.ConditionSet.count op }
-    ensures few { result ≤ places (meaning net.now) }
-    ensures written { Decided (meaning net.now) (covers N.Set.ConditionSet.holds part.new) (Shape (meaning net.now) op (Is (covers N.Set.ConditionSet.holds first.old)) (Is (covers N.Set.ConditionSet.holds second.old))) }
-    ensures counted { Rounds (meaning net.now) op (Is (covers N.Set.ConditionSet.holds first.old)) (Is (covers N.Set.ConditionSet.holds second.old)) result }
+    ensures few { result ≤ places (N.meaning net.now) }
+    ensures written { Decided (N.meaning net.now) (covers N.Set.ConditionSet.holds part.new) (Shape (N.meaning net.now) op (Is (covers N.Set.ConditionSet.holds first.old)) (Is (covers N.Set.ConditionSet.holds second.old))) }
+    ensures counted { Rounds (N.meaning net.now) op (Is (covers N.Set.ConditionSet.holds first.old)) (Is (covers N.Set.ConditionSet.holds second.old)) result }
 {
     match op {
         Operation::Yes => {
@@ -157,15 +157,15 @@ pub(crate) fn judge_row<N: Network>(
     main: &mut [N::Set],
     spare: &mut [N::Set],
 ) -> usize
-    requires over { (meaning net.now).conditions ≡ N.Set.ConditionSet.count }
+    requires over { (N.meaning net.now).conditions ≡ N.Set.ConditionSet.count }
     requires named { Named N.Set.ConditionSet.count op }
     requires earlier { ((first_is_row op ≡ true → (coded op).first < row)) × ((second_is_row op ≡ true → (coded op).second < row)) }
-    requires room { (row * places (meaning net.now) + places (meaning net.now) ≤ length main.old) × (2 * places (meaning net.now) ≤ length spare.old) }
-    ensures few { result ≤ places (meaning net.now) }
-    ensures before { take (row * places (meaning net.now)) main.new ≡ take (row * places (meaning net.now)) main.old }
-    ensures behind { drop (row * places (meaning net.now) + places (meaning net.now)) main.new ≡ drop (row * places (meaning net.now) + places (meaning net.now)) main.old }
-    ensures written { Decided (meaning net.now) (covers N.Set.ConditionSet.holds (row_part (places (meaning net.now)) row main.new)) (Shape (meaning net.now) op (Is (covers N.Set.ConditionSet.holds (row_part (places (meaning net.now)) (coded op).first main.old))) (Is (covers N.Set.ConditionSet.holds (row_part (places (meaning net.now)) (coded op).second main.old)))) }
-    ensures counted { Rounds (meaning net.now) op (Is (covers N.Set.ConditionSet.holds (row_part (places (meaning net.now)) (coded op).first main.old))) (Is (covers N.Set.ConditionSet.holds (row_part (places (meaning net.now)) (coded op).second main.old))) result }
+    requires room { (row * places (N.meaning net.now) + places (N.meaning net.now) ≤ length main.old) × (2 * places (N.meaning net.now) ≤ length spare.old) }
+    ensures few { result ≤ places (N.meaning net.now) }
+    ensures before { take (row * places (N.meaning net.now)) main.new ≡ take (row * places (N.meaning net.now)) main.old }
+    ensures behind { drop (row * places (N.meaning net.now) + places (N.meaning net.now)) main.new ≡ drop (row * places (N.meaning net.now) + places (N.meaning net.now)) main.old }
+    ensures written { Decided (N.meaning net.now) (covers N.Set.ConditionSet.holds (row_part (places (N.meaning net.now)) row main.new)) (Shape (N.meaning net.now) op (Is (covers N.Set.ConditionSet.holds (row_part (places (N.meaning net.now)) (coded op).first main.old))) (Is (covers N.Set.ConditionSet.holds (row_part (places (N.meaning net.now)) (coded op).second main.old)))) }
+    ensures counted { Rounds (N.meaning net.now) op (Is (covers N.Set.ConditionSet.holds (row_part (places (N.meaning net.now)) (coded op).first main.old))) (Is (covers N.Set.ConditionSet.holds (row_part (places (N.meaning net.now)) (coded op).second main.old))) result }
 {
     let n = net.places();
     let (p, q) = operands(op);

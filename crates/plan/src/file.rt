@@ -9,6 +9,7 @@ ghost use Rattle.plan.specs.Shape.{shape_fault};
 pub mod open;
 pub mod rules;
 
+#[derive(Clone, Copy)]
 pub struct PlanFile<'a> {
     bytes: &'a [u8],
     places: usize,
@@ -24,5 +25,3 @@ pub struct PlanFile<'a> {
     ghost ends: { all_inside (place_count bytes.now) (listed (binding_count bytes.now) (binding_at bytes.now)) ≡ true },
     ghost read: { ∥ TextsRead bytes.now ∥₁ },
 }
-
-impl<'a> Copy for PlanFile<'a> {}

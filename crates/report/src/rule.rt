@@ -25,9 +25,9 @@ pub(crate) fn add_rule<N: Network>(
     report: &mut Report,
 )
     requires digit { rule < 10 }
-    requires taken { accepted (meaning net.now).conditions (table_rows table.now) ≡ true }
+    requires taken { accepted (N.meaning net.now).conditions (table_rows table.now) ≡ true }
     requires room { (8192 ≤ length main.old) × (512 ≤ length spare.old) }
-    ensures { LineAdded (meaning net.now) rule (table_rows table.now) report.old report.new }
+    ensures { LineAdded (N.meaning net.now) rule (table_rows table.now) report.old report.new }
 {
     if let Ok(judgement) = judge_entries(net, table.rows(), main, spare) {
         add_verdict(report, rule, judgement);

@@ -3,14 +3,13 @@ ghost use Rattle.std.specs.Prelude.{◌≡◌, ◌≤◌, length, take};
 
 use tables::row::Row;
 
+#[derive(Clone, Copy)]
 pub struct Table {
     pub(crate) rows: [Row; 32],
     pub(crate) len: usize,
     ghost few: { len ≤ 32 },
     ghost sized: { length rows ≡ 32 },
 }
-
-impl Copy for Table {}
 
 impl Table {
     // The rows of the table, for judging.

@@ -17,7 +17,7 @@ use tables::row::Row;
 
 // Whether a place is an entry: whether it has mark 0.
 fn is_entry<N: Network>(net: &N, place: usize) -> bool
-    ensures { result ≡ bit (slice_index (meaning net.now).marks place) 0 }
+    ensures { result ≡ bit (slice_index (N.meaning net.now).marks place) 0 }
 {
     match net.marks(place) {
         Some(marks) => marks & 1 == 1,
@@ -27,9 +27,9 @@ fn is_entry<N: Network>(net: &N, place: usize) -> bool
 
 // The verdict on the positions that `part` has.
 fn at_entries<N: Network>(net: &N, part: &[N::Set]) -> Verdict
-    requires over { (meaning net.now).conditions ≡ N.Set.ConditionSet.count }
-    requires long { length part.now ≡ places (meaning net.now) }
-    ensures { Told (meaning net.now) (Is (covers N.Set.ConditionSet.holds part.now)) result }
+    requires over { (N.meaning net.now).conditions ≡ N.Set.ConditionSet.count }
+    requires long { length part.now ≡ places (N.meaning net.now) }
+    ensures { Told (N.meaning net.now) (Is (covers N.Set.ConditionSet.holds part.now)) result }
 {
     for place in 0..part.len() {
         if is_entry(net, place) {
@@ -51,7 +51,7 @@ pub fn judge_entries<N: Network>(
     main: &mut [N::Set],
     spare: &mut [N::Set],
 ) -> Result<Judgement, Refusal>
-    ensures { MatchResult result (λ j. (judge_refusal (meaning net.now) table.now (length main.old) (length spare.old) ≡ None) × Judged N.Set.ConditionSet.holds (meaning net.now) table.now main.old main.new j.rounds × Told (meaning net.now) (Means (meaning net.now) (rule_at table.now (length table.now - 1))) j.verdict) (λ e. (judge_refusal (meaning net.now) table.now (length main.old) (length spare.old) ≡ Some e) × (main.new ≡ main.old) × (spare.new ≡ spare.old)) }
+    ensures { MatchResult result (λ j. (judge_refusal (N.meaning net.now) table.now (length main.old) (length spare.old) ≡ None) × Judged N.Set.ConditionSet.holds (N.meaning net.now) table.now main.old main.new j.rounds × Told (N.meaning net.now) (Means (N.meaning net.now) (rule_at table.now (length table.now - 1))) j.verdict) (λ e. (judge_refusal (N.meaning net.now) table.now (length main.old) (length spare.old) ≡ Some e) × (main.new ≡ main.old) × (spare.new ≡ spare.old)) }
 {
     let rounds = judge(net, table, main, spare)?;
     let n = net.places();

@@ -13,7 +13,7 @@ pub loop-count-init : goal.loop-count-init
 loop-count-init g c =
     let N : Net = g.N.Network.meaning c.args.net.now in
     let e : places N + 1 ≡ places N + 1 - 0 = omega arith in
-    (ap (λ f. walk_always N (covers g.Set.ConditionSet.holds c.args.sets.now) f [] (as_pos c.args.start)) e, refl, refl)
+    (ap (λ f. walk_always N (covers g.N.Set.ConditionSet.holds c.args.sets.now) f [] (as_pos c.args.start)) e, refl, refl)
 
 -- A part from the start.
 from_start : (at : RouteStep) (steps : List RouteStep) (k : ℕ) (o : Option ℕ) → o ≡ index_of (as_pos at) (map as_pos (take (k - 0) steps)) → index_of (as_pos at) (map as_pos (take k steps)) ≡ o
@@ -22,7 +22,7 @@ from_start at steps k o e = let z : k - 0 ≡ k = omega arith in sym (e ∙ ap (
 pub returns-in-Some : goal.returns-in-Some
 returns-in-Some g c =
     let N : Net = g.N.Network.meaning c.args.net.now in
-    let X = covers g.Set.ConditionSet.holds c.args.sets.now in
+    let X = covers g.N.Set.ConditionSet.holds c.args.sets.now in
     let steps = c.loop-count.steps in
     let k = c.loop-count.count in
     let at = c.loop-count.at in
@@ -32,7 +32,7 @@ returns-in-Some g c =
 pub returns-in-None : goal.returns-in-None
 returns-in-None g c =
     let N : Net = g.N.Network.meaning c.args.net.now in
-    let X = covers g.Set.ConditionSet.holds c.args.sets.now in
+    let X = covers g.N.Set.ConditionSet.holds c.args.sets.now in
     let steps = c.loop-count.steps in
     let k = c.loop-count.count in
     let at = c.loop-count.at in
@@ -42,14 +42,14 @@ returns-in-None g c =
     let seen : List Pos = map as_pos (take k steps) in
     written_front total c.args.steps.now (set steps k at) (k + 1) _ (simp length-set (omega arith))
     (c.loop-count.invariant.0 ∙ ap (λ f. walk_always N X f seen (as_pos at)) fuel
-    ∙ walk_rests N X seen (as_pos at) (places N - k) (from_start at steps k _ c.in-default.ensures) (next_is_none _ (sym c.in-None.is ∙ c.next_into.ensures))
+    ∙ walk_rests N X seen (as_pos at) (places N - k) (from_start at steps k _ c.in_default.ensures) (next_is_none _ (sym c.in-None.is ∙ c.next_into.ensures))
     ∙ ap (λ (ps : List Pos). record { positions = ps; ending = Rests }) (sym (seen_more steps k at inside)))
     (drop-set-lt (k + 1) steps k at (omega arith) ∙ drop_more steps c.args.steps.now k c.loop-count.invariant.1)
 
 pub loop-count-preserved : goal.loop-count-preserved
 loop-count-preserved g c =
     let N : Net = g.N.Network.meaning c.args.net.now in
-    let X = covers g.Set.ConditionSet.holds c.args.sets.now in
+    let X = covers g.N.Set.ConditionSet.holds c.args.sets.now in
     let steps = c.loop-count.steps in
     let k = c.loop-count.count in
     let at = c.loop-count.at in
@@ -59,7 +59,7 @@ loop-count-preserved g c =
     let less : places N - k ≡ places N + 1 - (k + 1) = omega arith in
     let seen : List Pos = map as_pos (take k steps) in (
       c.loop-count.invariant.0 ∙ ap (λ f. walk_always N X f seen (as_pos at)) fuel
-          ∙ walk_goes_on N X seen (as_pos at) (places N - k) (as_pos next) (from_start at steps k _ c.in-default.ensures) (next_is _ next (sym c.in-Some-next_into.is ∙ c.next_into.ensures))
+          ∙ walk_goes_on N X seen (as_pos at) (places N - k) (as_pos next) (from_start at steps k _ c.in_default.ensures) (next_is _ next (sym c.in-Some-next_into.is ∙ c.next_into.ensures))
           ∙ ap (λ (ps : List Pos). walk_always N X (places N - k) ps (as_pos next)) (sym (seen_more steps k at inside))
           ∙ ap (λ f. walk_always N X f (map as_pos (take (k + 1) (set steps k at))) (as_pos next)) less,
       drop-set-lt (k + 1) steps k at (omega arith) ∙ drop_more steps c.args.steps.now k c.loop-count.invariant.1,
@@ -69,7 +69,7 @@ loop-count-preserved g c =
 pub returns-in-Some-find_step : goal.returns-in-Some-find_step
 returns-in-Some-find_step g c =
     let N : Net = g.N.Network.meaning c.args.net.now in
-    let X = covers g.Set.ConditionSet.holds c.args.sets.now in
+    let X = covers g.N.Set.ConditionSet.holds c.args.sets.now in
     let steps = c.loop-count.steps in
     let k = c.loop-count.count in
     let n = c.places-n.result in
@@ -83,7 +83,7 @@ returns-in-Some-find_step g c =
 pub returns-in-None-find_step : goal.returns-in-None-find_step
 returns-in-None-find_step g c =
     let N : Net = g.N.Network.meaning c.args.net.now in
-    let X = covers g.Set.ConditionSet.holds c.args.sets.now in
+    let X = covers g.N.Set.ConditionSet.holds c.args.sets.now in
     let steps = c.loop-count.steps in
     let k = c.loop-count.count in
     let n = c.places-n.result in

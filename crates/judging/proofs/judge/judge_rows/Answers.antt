@@ -7,7 +7,7 @@ use Rattle.judging.proofs.Operands.{part_before}
 use Rattle.judging.proofs.RuleRows.{fits_named, fits_first, fits_second}
 use Rattle.judging.proofs.Sofar.{Sofar, sofar_more}
 use Rattle.judging.proofs.judge.judge_rows.Goals as goal
-use Rattle.judging.proofs.judge.judge_rows.Goals.{in-Some, in-default}
+use Rattle.judging.proofs.judge.judge_rows.Goals.{in-Some, in_default}
 
 pub loop-row-init : goal.loop-row-init
 loop-row-init g c = record { written = λ i l. absurd (omega arith); rest = refl; counted = refl; few = omega arith }
@@ -24,7 +24,7 @@ judge_row-rounds-requires g c =
     let ends : row * n + n ≤ length rows * n = part_before row (length rows) n c.loop-row-test.true in
     record {
       over = sym c.conditions-conditions.ensures.value ∙ c.conditions-conditions.ensures.sets;
-      named = fits_named g.Set.ConditionSet.count row op (subst (λ (k : ℕ). row_fits k row (coded op) ≡ true) c.conditions-conditions.ensures.sets fit);
+      named = fits_named g.N.Set.ConditionSet.count row op (subst (λ (k : ℕ). row_fits k row (coded op) ≡ true) c.conditions-conditions.ensures.sets fit);
       earlier = (fits_first K row op fit, fits_second K row op fit);
       room = (omega arith, omega arith);
     }
@@ -41,7 +41,7 @@ overflow_add-rounds g c =
 
 pub loop-row-preserved : goal.loop-row-preserved
 loop-row-preserved g c =
-    let holds = g.Set.ConditionSet.holds in
+    let holds = g.N.Set.ConditionSet.holds in
     let N : Net = g.N.Network.meaning c.args.net.now in
     let K = c.conditions-conditions.result in
     let rows = c.args.table.now in
@@ -55,14 +55,14 @@ loop-row-preserved g c =
           (subst (λ (m : ℕ). Sofar holds N rows start w.judge_row-rounds.new.main (row + 1) m) (sym w.rounds-is)
           (sofar_more holds N K rows start c.loop-row.main w.judge_row-rounds.new.main row c.loop-row.rounds k w.in-Some.op c.loop-row-test.true
           w.in-Some.ensures.1 w.in-Some.ensures.0 c.loop-row.invariant e.before e.behind e.written e.counted e.few))
-      | in-default w ↦
+      | in_default w ↦
           let fits = accepted_row N.conditions rows c.requires.taken row c.loop-row-test.true in
-          absurd (true≢false (sym fits ∙ ap (λ k. row_fits k row (get_or rows row no_row)) (sym c.conditions-conditions.ensures.value) ∙ w.in-default.ensures))
+          absurd (true≢false (sym fits ∙ ap (λ k. row_fits k row (get_or rows row no_row)) (sym c.conditions-conditions.ensures.value) ∙ w.in_default.ensures))
     ]
 
 pub returns : goal.returns
 returns g c =
     let N : Net = g.N.Network.meaning c.args.net.now in
     let e : c.loop-row.row ≡ length c.args.table.now = omega arith in
-    let s = subst (λ (r : ℕ). Sofar g.Set.ConditionSet.holds N c.args.table.now c.args.main.now c.loop-row.main r c.loop-row.rounds) e c.loop-row.invariant in
+    let s = subst (λ (r : ℕ). Sofar g.N.Set.ConditionSet.holds N c.args.table.now c.args.main.now c.loop-row.main r c.loop-row.rounds) e c.loop-row.invariant in
     record { written = s.written; rest = s.rest; counted = s.counted }

@@ -12,7 +12,7 @@ use Rattle.judging.proofs.notes.note_rounds.Goals as goal
 
 pub loop-round-init : goal.loop-round-init
 loop-round-init g c =
-    let holds = g.Set.ConditionSet.holds in
+    let holds = g.N.Set.ConditionSet.holds in
     let N : Net = g.N.Network.meaning c.args.net.now in
     let p = covers holds c.args.p.now in
     let q = covers holds c.args.part.now in (
@@ -23,7 +23,7 @@ loop-round-init g c =
 
 pub returns-then-contains : goal.returns-then-contains
 returns-then-contains g c =
-    let holds = g.Set.ConditionSet.holds in
+    let holds = g.N.Set.ConditionSet.holds in
     let N : Net = g.N.Network.meaning c.args.net.now in
     let T : ℕ → Pos → Bool = grown N (covers holds c.args.p.now) (covers holds c.args.part.now) in
     let x : Pos = as_pos c.args.start in
@@ -38,7 +38,7 @@ returns-then-contains g c =
 
 pub loop-round-preserved : goal.loop-round-preserved
 loop-round-preserved g c =
-    let holds = g.Set.ConditionSet.holds in
+    let holds = g.N.Set.ConditionSet.holds in
     let N : Net = g.N.Network.meaning c.args.net.now in
     let p = covers holds c.args.p.now in
     let q = covers holds c.args.part.now in
@@ -66,7 +66,7 @@ loop-round-preserved g c =
 
 pub returns : goal.returns
 returns g c =
-    let holds = g.Set.ConditionSet.holds in
+    let holds = g.N.Set.ConditionSet.holds in
     let N : Net = g.N.Network.meaning c.args.net.now in
     let T : ℕ → Pos → Bool = grown N (covers holds c.args.p.now) (covers holds c.args.part.now) in
     record {

@@ -8,7 +8,7 @@ use Rattle.judging.proofs.notes.note_rounds.Given as goal
 
 abbrev pub invariant-loop-round : goal.invariant-loop-round
 invariant-loop-round g l =
-    let holds = g.Set.ConditionSet.holds in
+    let holds = g.N.Set.ConditionSet.holds in
     let N = g.N.Network.meaning l.net in
     let T : ℕ → Pos → Bool = grown N (covers holds l.p) (covers holds l.initial.part) in
     ((y : Pos) → Within N y → covers holds l.part y ≡ T l.round y)

@@ -20,21 +20,21 @@ use Rattle.judging.proofs.RuleRows.{operation_rule, fits_first, fits_second, rul
 use Rattle.judging.proofs.Same.{same_true_at, chosen_same}
 use Rattle.judging.proofs.route.route.Goals as goal
 
-pub returns-in-default-read_row : goal.returns-in-default-read_row
-returns-in-default-read_row g c =
+pub returns-in_default-read_row : goal.returns-in_default-read_row
+returns-in_default-read_row g c =
     let N : Net = g.N.Network.meaning c.args.net.now in
     let rows = c.args.table.now in
     let row = c.args.row in
-    let a = asked N rows row (as_pos c.args.at) (length c.args.main.now) (length c.args.spare.now) (length c.args.steps.now) (sym c.in-default.ensures) in
+    let a = asked N rows row (as_pos c.args.at) (length c.args.main.now) (length c.args.spare.now) (length c.args.steps.now) (sym c.in_default.ensures) in
     let fits = accepted_row N.conditions rows a.taken row a.row_in in
-    absurd (true≢false (sym fits ∙ ap (λ k. row_fits k row (get_or rows row no_row)) (sym c.conditions.ensures.value) ∙ c.in-default-read_row.ensures))
+    absurd (true≢false (sym fits ∙ ap (λ k. row_fits k row (get_or rows row no_row)) (sym c.conditions.ensures.value) ∙ c.in_default-read_row.ensures))
 
 pub holds_at-requires : goal.holds_at-requires
 holds_at-requires g c =
     let N : Net = g.N.Network.meaning c.args.net.now in
     let rows = c.args.table.now in
     let row = c.args.row in
-    let a = asked N rows row (as_pos c.args.at) (length c.args.main.now) (length c.args.spare.now) (length c.args.steps.now) (sym c.in-default.ensures) in
+    let a = asked N rows row (as_pos c.args.at) (length c.args.main.now) (length c.args.spare.now) (length c.args.steps.now) (sym c.in_default.ensures) in
     let ends : row * places N + places N ≤ length rows * places N = part_before row (length rows) (places N) a.row_in in
     let kept = c.judge.auto.main in
     let room = a.room in
@@ -42,12 +42,12 @@ holds_at-requires g c =
 
 pub returns-then-not-holds_at : goal.returns-then-not-holds_at
 returns-then-not-holds_at g c =
-    let holds = g.Set.ConditionSet.holds in
+    let holds = g.N.Set.ConditionSet.holds in
     let N : Net = g.N.Network.meaning c.args.net.now in
     let rows = c.args.table.now in
     let row = c.args.row in
     let x : Pos = as_pos c.args.at in
-    let none = sym c.in-default.ensures in
+    let none = sym c.in_default.ensures in
     let a = asked N rows row x (length c.args.main.now) (length c.args.spare.now) (length c.args.steps.now) none in
     let judged = c.in_ok-judge.ensures.1.written row a.row_in x a.within in
     (refl, inr (none, refl, not_from_Decides _ judged (sym c.holds_at.ensures ∙ c.if-not-holds_at.true)))
@@ -57,7 +57,7 @@ show_row-requires g c =
     let N : Net = g.N.Network.meaning c.args.net.now in
     let rows = c.args.table.now in
     let row = c.args.row in
-    let a = asked N rows row (as_pos c.args.at) (length c.args.main.now) (length c.args.spare.now) (length c.args.steps.now) (sym c.in-default.ensures) in
+    let a = asked N rows row (as_pos c.args.at) (length c.args.main.now) (length c.args.spare.now) (length c.args.steps.now) (sym c.in_default.ensures) in
     let op = c.in-Some-read_row.op in
     let K = c.conditions.result in
     let fit : row_fits K row (coded op) ≡ true = ap (row_fits K row) c.in-Some-read_row.ensures.1 ∙ c.in-Some-read_row.ensures.0 in
@@ -75,12 +75,12 @@ show_row-requires g c =
 
 pub returns : goal.returns
 returns g c =
-    let holds = g.Set.ConditionSet.holds in
+    let holds = g.N.Set.ConditionSet.holds in
     let N : Net = g.N.Network.meaning c.args.net.now in
     let rows = c.args.table.now in
     let row = c.args.row in
     let x : Pos = as_pos c.args.at in
-    let none = sym c.in-default.ensures in
+    let none = sym c.in_default.ensures in
     let a = asked N rows row x (length c.args.main.now) (length c.args.spare.now) (length c.args.steps.now) none in
     let op = c.in-Some-read_row.op in
     let K = c.conditions.result in

@@ -13,15 +13,15 @@ loop-i-preserved g c =
     let i = c.loop-i.i in
     let v = c.union-wider.result in
     let old = c.index-sets-i.result in
-    let p = c.index_of-i.result in
+    let p = c.index-of-i.result in
     let q = c.index-with-i.result in
     let in_sets : i < length sets = omega arith in
     let in_one : i < length one = omega arith in
     let in_other : i < length other = omega arith in
     let made : (a : ℕ) → holds v a ≡ f (holds old a) (holds p a) (holds q a) =
     λ a. c.union-wider.ensures a ∙ ap (λ t. holds old a || t) (c.intersection.ensures a) in (
-      update_more holds f start one other sets i v old p q in_sets in_one in_other c.index-sets-i.is c.index_of-i.is c.index-with-i.is made c.loop-i.invariant.0,
-      unchanged_more holds f start one other sets i v old p q in_sets in_one in_other c.index-sets-i.is c.index_of-i.is c.index-with-i.is made c.loop-i.invariant.0
+      update_more holds f start one other sets i v old p q in_sets in_one in_other c.index-sets-i.is c.index-of-i.is c.index-with-i.is made c.loop-i.invariant.0,
+      unchanged_more holds f start one other sets i v old p q in_sets in_one in_other c.index-sets-i.is c.index-of-i.is c.index-with-i.is made c.loop-i.invariant.0
           c.loop-i.settled c.same_members-settled.result c.loop-i.invariant.1 c.same_members-settled.ensures,
     )
 

@@ -24,7 +24,7 @@ offset_bounds-part-at g c = let l = inside c.args.at.place _ _ c.args.row c.args
 
 pub returns : goal.returns
 returns g c =
-    let holds = g.Set.ConditionSet.holds in
+    let holds = g.N.Set.ConditionSet.holds in
     let main = c.args.main.now in
     let part = c.part_of-part.result.now in
     let l = inside c.args.at.place _ _ c.args.row main part c.places.ensures.value c.requires.inside c.requires.room c.part_of-part.ensures in

@@ -55,7 +55,7 @@ walk_within-requires g c =
 
 pub returns-in-Next : goal.returns-in-Next
 returns-in-Next g c =
-    let holds = g.Set.ConditionSet.holds in
+    let holds = g.N.Set.ConditionSet.holds in
     let N : Net = g.N.Network.meaning c.args.net.now in
     let main = c.args.main.now in
     let x : Pos = as_pos c.args.at in
@@ -67,7 +67,7 @@ returns-in-Next g c =
 
 pub returns-in-Until : goal.returns-in-Until
 returns-in-Until g c =
-    let holds = g.Set.ConditionSet.holds in
+    let holds = g.N.Set.ConditionSet.holds in
     let N : Net = g.N.Network.meaning c.args.net.now in
     let main = c.args.main.now in
     let x : Pos = as_pos c.args.at in
@@ -76,7 +76,7 @@ returns-in-Until g c =
 
 pub returns-in-Always : goal.returns-in-Always
 returns-in-Always g c =
-    let holds = g.Set.ConditionSet.holds in
+    let holds = g.N.Set.ConditionSet.holds in
     let N : Net = g.N.Network.meaning c.args.net.now in
     let main = c.args.main.now in
     let x : Pos = as_pos c.args.at in
@@ -99,9 +99,9 @@ not_shown N (Not i) p q own x n u a = refl
 not_shown N (And i j) p q own x n u a = refl
 not_shown N (Or i j) p q own x n u a = refl
 
-pub returns-in-default : goal.returns-in-default
-returns-in-default g c =
+pub returns-in_default : goal.returns-in_default
+returns-in_default g c =
     let N : Net = g.N.Network.meaning c.args.net.now in
     subst (λ (k : Chosen). Written k c.args.steps.now c.args.steps.now (record { count = 0; ending = Rests }))
-    (sym (not_shown N c.args.op _ _ _ _ c.in-default.not-Next c.in-default.not-Until c.in-default.not-Always))
+    (sym (not_shown N c.args.op _ _ _ _ c.in_default.not-Next c.in_default.not-Until c.in_default.not-Always))
     (record { counted = refl; ended = refl; front = refl; rest = refl })

@@ -10,7 +10,7 @@ pub copy_operand-requires : goal.copy_operand-requires
 copy_operand-requires g c =
     let n = c.places-n.result in
     let room : c.args.row * n + n ≤ length c.args.main.now = subst (λ (m : ℕ). c.args.row * m + m ≤ length c.args.main.now) (sym c.places-n.ensures.value) c.requires.room.0 in
-    record { long = c.split_at_mut-first.ensures.front-len; within = let b = part_before c.args.p c.args.row n c.requires.earlier.0 in omega arith }
+    record { long = c.split_at_mut-first.ensures.front_len; within = let b = part_before c.args.p c.args.row n c.requires.earlier.0 in omega arith }
 
 pub copy_operand-requires-2 : goal.copy_operand-requires-2
 copy_operand-requires-2 g c =
@@ -22,13 +22,13 @@ pub walk_until-requires : goal.walk_until-requires
 walk_until-requires g c =
     let v = c.places-n.ensures.value in
     let second : length c.copy_operand-2.new.half ≡ c.places-n.result = c.copy_operand-2.auto.half ∙ simp length-take (omega arith) in
-    let first : length c.copy_operand.new.half ≡ c.places-n.result = c.copy_operand.auto.half ∙ c.split_at_mut-first.ensures.front-len in
+    let first : length c.copy_operand.new.half ≡ c.places-n.result = c.copy_operand.auto.half ∙ c.split_at_mut-first.ensures.front_len in
     let part : length c.copy_from_slice.new.self ≡ c.places-n.result = ap length c.copy_from_slice.ensures.after ∙ second in
     record { over = c.requires.over; lengths = (part ∙ v, (first ∙ v, second ∙ v)); inside = c.requires.inside; room = c.requires.room.1.1 }
 
 pub returns : goal.returns
 returns g c =
-    let holds = g.Set.ConditionSet.holds in
+    let holds = g.N.Set.ConditionSet.holds in
     let N : Net = g.N.Network.meaning c.args.net.now in
     let main = c.args.main.now in
     let x : Pos = as_pos c.args.at in

@@ -33,7 +33,7 @@ walk_down-requires g c =
 
 pub returns-in-Some : goal.returns-in-Some
 returns-in-Some g c =
-    let holds = g.Set.ConditionSet.holds in
+    let holds = g.N.Set.ConditionSet.holds in
     let N : Net = g.N.Network.meaning c.args.net.now in
     let p = covers holds c.args.p.now in
     let q = covers holds c.args.part.now in
@@ -47,7 +47,7 @@ returns-in-Some g c =
 
 pub returns-in-None : goal.returns-in-None
 returns-in-None g c =
-    let holds = g.Set.ConditionSet.holds in
+    let holds = g.N.Set.ConditionSet.holds in
     let N : Net = g.N.Network.meaning c.args.net.now in
     let is = until_none N (covers holds c.args.p.now) (covers holds c.args.part.now) (as_pos c.args.at) c.in-None.ensures.hops in
     subst (λ (k : Chosen). Written k c.args.steps.now c.args.steps.now (record { count = 0; ending = Reaches })) (sym is) (record { counted = refl; ended = refl; front = refl; rest = refl })

@@ -6,14 +6,14 @@ use Rattle.judging.specs.Notes.{noted_entry}
 use Rattle.judging.specs.Steps.{as_next, as_pos}
 use Rattle.judging.proofs.Nexts.{first_none, first_found, first_elsewhere, first_shut, first_outside}
 use Rattle.judging.proofs.until.nearest.Goals as goal
-use Rattle.judging.proofs.until.nearest.Goals.{in-Some+then-b-at+then-contains+else-rounds-place, in-Some+else-b-at, else-b-at-via-then-b-at+else-contains, else-b-at-via-else-b-at, in-default}
+use Rattle.judging.proofs.until.nearest.Goals.{in-Some+then-b-at+then-contains+else-rounds-place, in-Some+else-b-at, else-b-at-via-then-b-at+else-contains, else-b-at-via-else-b-at, in_default}
 
 pub loop-i-init : goal.loop-i-init
 loop-i-init g c = refl
 
 pub returns-then-rounds-place : goal.returns-then-rounds-place
 returns-then-rounds-place g c =
-    let holds = g.Set.ConditionSet.holds in
+    let holds = g.N.Set.ConditionSet.holds in
     let N : Net = g.N.Network.meaning c.args.net.now in
     let b = c.in-Some.b in
     let rounds = c.args.rounds.now in
@@ -23,7 +23,7 @@ returns-then-rounds-place g c =
 
 pub loop-i-preserved : goal.loop-i-preserved
 loop-i-preserved g c =
-    let holds = g.Set.ConditionSet.holds in
+    let holds = g.N.Set.ConditionSet.holds in
     let N : Net = g.N.Network.meaning c.args.net.now in
     let rounds = c.args.rounds.now in
     let enter = noted_entry rounds c.args.settings.now c.args.by in
@@ -39,7 +39,7 @@ loop-i-preserved g c =
             | else-b-at-via-then-b-at+else-contains v ↦ first_shut enter x N.bindings i (linked holds w.in-Some.b) w.in-Some.ensures.value c.loop-i.invariant (sym v.contains.ensures ∙ v.if-contains.false)
             | else-b-at-via-else-b-at v ↦ first_elsewhere enter x N.bindings i (linked holds w.in-Some.b) w.in-Some.ensures.value c.loop-i.invariant v.if-b-at.false
           ]
-      | in-default w ↦ let past = w.in-default.ensures.value in absurd (omega arith)
+      | in_default w ↦ let past = w.in_default.ensures.value in absurd (omega arith)
     ]
 
 pub returns : goal.returns

@@ -12,7 +12,7 @@ copy_operand-requires g c =
     let op = c.args.op in
     let room : c.args.row * n + n ≤ length c.args.main.now = subst (λ (m : ℕ). c.args.row * m + m ≤ length c.args.main.now) (sym c.places-n.ensures.value) c.requires.room.0 in
     record {
-      long = c.split_at_mut-first.ensures.front-len;
+      long = c.split_at_mut-first.ensures.front_len;
       within = operand_within c.operands-p.result.0 (first_is_row op) (coded op).first c.args.row n (length c.args.main.now) c.operands-p.ensures.first c.requires.earlier.0 room;
     }
 
@@ -28,7 +28,7 @@ copy_operand-requires-2 g c =
 
 pub returns : goal.returns
 returns g c =
-    let holds = g.Set.ConditionSet.holds in
+    let holds = g.N.Set.ConditionSet.holds in
     let N : Net = g.N.Network.meaning c.args.net.now in
     let n = c.places-n.result in
     let op = c.args.op in

@@ -15,8 +15,8 @@ self N p x w = (λ e. e, λ e. e)
 
 pub returns-in-Yes : goal.returns-in-Yes
 returns-in-Yes g c =
-    let holds = g.Set.ConditionSet.holds in
-    let K = g.Set.ConditionSet.count in
+    let holds = g.N.Set.ConditionSet.holds in
+    let K = g.N.Set.ConditionSet.count in
     let N : Net = g.N.Network.meaning c.args.net.now in
     let P : Pos → Type 0 = Is (covers holds c.args.first.now) in
     let Q : Pos → Type 0 = Is (covers holds c.args.second.now) in
@@ -31,8 +31,8 @@ returns-in-Yes g c =
 
 pub returns-in-Mark : goal.returns-in-Mark
 returns-in-Mark g c =
-    let holds = g.Set.ConditionSet.holds in
-    let K = g.Set.ConditionSet.count in
+    let holds = g.N.Set.ConditionSet.holds in
+    let K = g.N.Set.ConditionSet.count in
     let N : Net = g.N.Network.meaning c.args.net.now in
     let P : Pos → Type 0 = Is (covers holds c.args.first.now) in
     let Q : Pos → Type 0 = Is (covers holds c.args.second.now) in
@@ -47,8 +47,8 @@ returns-in-Mark g c =
 
 pub returns-in-Condition : goal.returns-in-Condition
 returns-in-Condition g c =
-    let holds = g.Set.ConditionSet.holds in
-    let K = g.Set.ConditionSet.count in
+    let holds = g.N.Set.ConditionSet.holds in
+    let K = g.N.Set.ConditionSet.count in
     let N : Net = g.N.Network.meaning c.args.net.now in
     let P : Pos → Type 0 = Is (covers holds c.args.first.now) in
     let Q : Pos → Type 0 = Is (covers holds c.args.second.now) in
@@ -63,8 +63,8 @@ returns-in-Condition g c =
 
 pub returns-in-Not : goal.returns-in-Not
 returns-in-Not g c =
-    let holds = g.Set.ConditionSet.holds in
-    let K = g.Set.ConditionSet.count in
+    let holds = g.N.Set.ConditionSet.holds in
+    let K = g.N.Set.ConditionSet.count in
     let N : Net = g.N.Network.meaning c.args.net.now in
     let P : Pos → Type 0 = Is (covers holds c.args.first.now) in
     let Q : Pos → Type 0 = Is (covers holds c.args.second.now) in
@@ -84,8 +84,8 @@ returns-in-Not g c =
 
 pub returns-in-And : goal.returns-in-And
 returns-in-And g c =
-    let holds = g.Set.ConditionSet.holds in
-    let K = g.Set.ConditionSet.count in
+    let holds = g.N.Set.ConditionSet.holds in
+    let K = g.N.Set.ConditionSet.count in
     let N : Net = g.N.Network.meaning c.args.net.now in
     let P : Pos → Type 0 = Is (covers holds c.args.first.now) in
     let Q : Pos → Type 0 = Is (covers holds c.args.second.now) in
@@ -106,8 +106,8 @@ returns-in-And g c =
 
 pub returns-in-Or : goal.returns-in-Or
 returns-in-Or g c =
-    let holds = g.Set.ConditionSet.holds in
-    let K = g.Set.ConditionSet.count in
+    let holds = g.N.Set.ConditionSet.holds in
+    let K = g.N.Set.ConditionSet.count in
     let N : Net = g.N.Network.meaning c.args.net.now in
     let P : Pos → Type 0 = Is (covers holds c.args.first.now) in
     let Q : Pos → Type 0 = Is (covers holds c.args.second.now) in
@@ -128,8 +128,8 @@ returns-in-Or g c =
 
 pub returns-in-Next : goal.returns-in-Next
 returns-in-Next g c =
-    let holds = g.Set.ConditionSet.holds in
-    let K = g.Set.ConditionSet.count in
+    let holds = g.N.Set.ConditionSet.holds in
+    let K = g.N.Set.ConditionSet.count in
     let N : Net = g.N.Network.meaning c.args.net.now in
     let P : Pos → Type 0 = Is (covers holds c.args.first.now) in
     let Q : Pos → Type 0 = Is (covers holds c.args.second.now) in
@@ -144,8 +144,8 @@ returns-in-Next g c =
 
 pub returns-in-Until : goal.returns-in-Until
 returns-in-Until g c =
-    let holds = g.Set.ConditionSet.holds in
-    let K = g.Set.ConditionSet.count in
+    let holds = g.N.Set.ConditionSet.holds in
+    let K = g.N.Set.ConditionSet.count in
     let N : Net = g.N.Network.meaning c.args.net.now in
     let P : Pos → Type 0 = Is (covers holds c.args.first.now) in
     let Q : Pos → Type 0 = Is (covers holds c.args.second.now) in
@@ -167,8 +167,8 @@ returns-in-Until g c =
 
 pub returns-in-Always : goal.returns-in-Always
 returns-in-Always g c =
-    let holds = g.Set.ConditionSet.holds in
-    let K = g.Set.ConditionSet.count in
+    let holds = g.N.Set.ConditionSet.holds in
+    let K = g.N.Set.ConditionSet.count in
     let N : Net = g.N.Network.meaning c.args.net.now in
     let P : Pos → Type 0 = Is (covers holds c.args.first.now) in
     let Q : Pos → Type 0 = Is (covers holds c.args.second.now) in

@@ -7,12 +7,12 @@ use Rattle.judging.proofs.work.write_mark.Goals.{then-has_mark, else-has_mark}
 
 pub loop-i-preserved : goal.loop-i-preserved
 loop-i-preserved g c = λ x below.
-    let holds = g.Set.ConditionSet.holds in
+    let holds = g.N.Set.ConditionSet.holds in
     let part = c.loop-i.part in
     let i = c.loop-i.i in
     let v = c.if-has_mark.part in
     let marks : ℕ → Bool = λ s. bit (get_or (g.N.Network.meaning c.args.net.now).marks s 0) c.args.k in
-    let inside : Bool = ltb x.setting (2 ^ g.Set.ConditionSet.count) in
+    let inside : Bool = ltb x.setting (2 ^ g.N.Set.ConditionSet.count) in
     let made : holds v x.setting ≡ (marks i && inside) =
     elim c.if-has_mark.branch [
       | then-has_mark w ↦

@@ -7,5 +7,5 @@ use Rattle.judging.proofs.work.write_mark.Given as goal
 abbrev pub invariant-loop-i : goal.invariant-loop-i
 invariant-loop-i g l =
     (x : Pos) → x.place < l.i
-    → covers g.Set.ConditionSet.holds l.part x
-    ≡ (bit (get_or (g.N.Network.meaning l.net).marks x.place 0) l.k && ltb x.setting (2 ^ g.Set.ConditionSet.count))
+    → covers g.N.Set.ConditionSet.holds l.part x
+    ≡ (bit (get_or (g.N.Network.meaning l.net).marks x.place 0) l.k && ltb x.setting (2 ^ g.N.Set.ConditionSet.count))

@@ -9,8 +9,8 @@ use Rattle.judging.proofs.work.write_rests.Goals as goal
 
 pub returns : goal.returns
 returns g c = λ x w.
-    let holds = g.Set.ConditionSet.holds in
-    let K = g.Set.ConditionSet.count in
+    let holds = g.N.Set.ConditionSet.holds in
+    let K = g.N.Set.ConditionSet.count in
     let N : Net = g.N.Network.meaning c.args.net.now in
     let everywhere = c.fill.new.sets in
     let into = covers holds c.steps_into.new.out x in

@@ -13,7 +13,7 @@ returns-in-Err c = record {
 
 pub loop-number-preserved : goal.loop-number-preserved
 loop-number-preserved c =
-    let text = c.in-default.ensures.answer in (
+    let text = c.in_default.ensures.answer in (
       each_lent_more c.args.texts.now IsRuleText c.loop-number.number _ c.loop-number-test.true c.loop-number.invariant.0 (text.0, text.1),
       each_lent_more c.args.texts.now (Each (λ b. b < 2 ^ 8)) c.loop-number.number _ c.loop-number-test.true c.loop-number.invariant.1
           c.known_bytes.ensures,

@@ -23,7 +23,7 @@ pub returns-then-out-length : goal.returns-then-out-length
 returns-then-out-length c =
     let p : Plan = plan_with c.lent_marks-marks.result.now c.lent_records-records.result.now c.args.texts.now in (
       subst (λ (p : Plan). WriteRefused p (length c.args.out.now) TooShort) (same_plan c.args.texts.now c.lent_marks-marks.ensures c.lent_records-records.ensures)
-          (c.in-Ok.ensures.0, c.in-default.ensures.0, omega (arith, c.in-Ok.ensures.1, length_encoded p)),
+          (c.in-Ok.ensures.0, c.in_default.ensures.0, omega (arith, c.in-Ok.ensures.1, length_encoded p)),
       refl,
     )
 
@@ -34,7 +34,7 @@ write_file-requires c =
       few_places = omega (arith, c.args.site.now.few_places, ap length c.lent_marks-marks.ensures);
       few_bindings = omega (arith, c.args.site.now.few_bindings, ap length c.lent_records-records.ensures);
       few_rules = few_from_none _ p.texts c.in-Ok.ensures.0;
-      rules = c.in-default.ensures.0;
+      rules = c.in_default.ensures.0;
       fits = omega (arith, c.in-Ok.ensures.1, length_encoded p);
     }
 
@@ -59,8 +59,8 @@ returns c =
             few_rules = few_from_none _ (lent c.args.texts.now) c.in-Ok.ensures.0;
             marks_fit = subst (Each (λ m. m < 2 ^ 32)) c.lent_marks-marks.ensures c.write_file.ensures.marks_fit;
             bindings_fit = bindings_fit _ (site_records site) site.ends (subst (Each (λ b. b.set.0 < 2 ^ 64)) c.lent_records-records.ensures c.write_file.ensures.sets_fit);
-            texts_fit = c.in-default.ensures.1;
-            rules = c.in-default.ensures.0;
+            texts_fit = c.in_default.ensures.1;
+            rules = c.in_default.ensures.0;
           };
       long = omega (arith, put.ends);
       file = put.front;

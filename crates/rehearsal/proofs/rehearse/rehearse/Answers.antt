@@ -9,5 +9,5 @@ pub returns : goal.returns
 returns c = record {
   back = c.drop-guard.ensures ∙ restored _ _ _ _ _ c.empty_set-old.ensures.after c.empty_set-old.ensures.value;
   answer = rehearsed c.args.marks.now c.args.records.now c.args.number c.args.table.now (length c.args.main.now) (length c.args.spare.now)
-      (sym c.in-default.ensures) c.view.result.now (c.view.ensures ∙ c.empty_set-old.ensures.after) _ c.judge_site.result (MatchResult-weaker c.judge_site.result c.judge_site.ensures (λ j k. (k.2, k.1.counted)) (λ e k. k.0));
+      (sym c.in_default.ensures) c.view.result.now (c.view.ensures ∙ c.empty_set-old.ensures.after) _ c.judge_site.result (MatchResult-weaker c.judge_site.result c.judge_site.ensures (λ j k. (k.2, k.1.counted)) (λ e k. k.0));
 }

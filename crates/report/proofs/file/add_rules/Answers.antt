@@ -2,7 +2,7 @@ use Rattle.std.proofs.Common.{◌+◌, ◌<◌, length, sym, refl, ap, subst, ar
 use Rattle.plan.specs.Files.{file_plan}
 use Rattle.report.proofs.Listing.{Printed, printed_none, printed_rule, printed_all}
 use Rattle.report.proofs.file.add_rules.Goals as goal
-use Rattle.report.proofs.file.add_rules.Goals.{in-Some, in-default}
+use Rattle.report.proofs.file.add_rules.Goals.{in-Some, in_default}
 
 pub loop-rule-init : goal.loop-rule-init
 loop-rule-init c = (printed_none (file_plan c.args.plan.now) c.args.report.now c.requires.fresh, refl, refl)
@@ -26,7 +26,7 @@ loop-rule-preserved c =
             omega (arith, ap length w.main-is, w.add_rule.auto.main),
             omega (arith, ap length w.spare-is, w.add_rule.auto.spare),
           )
-      | in-default w ↦ let past = w.in-default.ensures in absurd (omega arith)
+      | in_default w ↦ let past = w.in_default.ensures in absurd (omega arith)
     ]
 
 pub returns : goal.returns

@@ -11,5 +11,5 @@ invariant_of-report c =
 pub returns-in-Some : goal.returns-in-Some
 returns-in-Some c = record { adds = search rules; short = long_length c.args.n (omega arith) }
 
-pub returns-in-default : goal.returns-in-default
-returns-in-default c = record { adds = search rules; short = long_length c.args.n (omega arith) }
+pub returns-in_default : goal.returns-in_default
+returns-in_default c = record { adds = search rules; short = long_length c.args.n (omega arith) }

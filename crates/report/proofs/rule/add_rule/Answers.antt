@@ -28,14 +28,14 @@ returns-in-Ok g c =
       right = λ t is. rule_line N c.args.rule t rows v rounds is told counted;
     }
 
-pub returns-in-default : goal.returns-in-default
-returns-in-default g c =
+pub returns-in_default : goal.returns-in_default
+returns-in_default g c =
     let N : Net = g.N.Network.meaning c.args.net.now in
     let main : ℕ = length c.args.main.now in
     let spare : ℕ = length c.args.spare.now in
     let none : judge_refusal N c.rows.result.now main spare ≡ None =
     subst (λ (table : List Row). judge_refusal N table main spare ≡ None) (sym c.rows.ensures)
     (never_refused N (table_rows c.args.table.now) main spare (g.N.Network.fits c.args.net.now) c.requires.taken (omega arith) (omega arith)) in
-    let refused = c.in-default.ensures.0 in
+    let refused = c.in_default.ensures.0 in
     let z : ◌≡◌ {A = ℕ} 0 1 = cc in
     absurd (omega arith)

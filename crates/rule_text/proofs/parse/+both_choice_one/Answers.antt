@@ -12,7 +12,7 @@ pub both-returns-in_err-advance : goal.both-returns-in_err-advance
 both-returns-in_err-advance t c =
     record {
       on = (onward c.args.r.now c.loop-r.r c.advance.new.r (onward c.args.r.now c.one.new.r c.loop-r.r c.one.ensures.on c.loop-r.invariant.0) c.advance.ensures.on);
-      reads = Parts.broken (BothRead c.args.levels c.args.r.now c.advance.new.r c.args.t.now c.loop-r.t) c.from-residual-in_err-advance.result c.in_err-advance.field-0.0 c.from-residual-in_err-advance.ensures.1
+      reads = Parts.broken (BothRead c.args.levels c.args.r.now c.advance.new.r c.args.t.now c.loop-r.t) c.from_residual-in_err-advance.result c.in_err-advance.field-0.0 c.from_residual-in_err-advance.ensures.1
           (Parts.both_next_bad c.args.levels c.args.r.now c.one.new.r c.loop-r.r c.args.t.now c.one.new.t c.loop-r.t c.in_ok-left.left c.loop-r.left c.in_ok-left.ensures.reads c.one.ensures.on c.loop-r.invariant.2 c.advance.new.r c.loop-r.t c.in_err-advance.field-0.0 (c.has.ensures.0 c.loop-r-test.true) c.in_err-advance.ensures.step);
     }
 
@@ -20,7 +20,7 @@ pub both-returns-in_err-right : goal.both-returns-in_err-right
 both-returns-in_err-right t c =
     record {
       on = onward c.args.r.now c.advance.new.r c.one_in-loop-r.new.r (onward c.args.r.now c.loop-r.r c.advance.new.r (onward c.args.r.now c.one.new.r c.loop-r.r c.one.ensures.on c.loop-r.invariant.0) c.advance.ensures.on) c.one_in-loop-r.ensures.on;
-      reads = Parts.broken (BothRead c.args.levels c.args.r.now c.one_in-loop-r.new.r c.args.t.now c.one_in-loop-r.new.t) c.from-residual-in_err-right.result c.in_err-right.field-0.0 c.from-residual-in_err-right.ensures.1
+      reads = Parts.broken (BothRead c.args.levels c.args.r.now c.one_in-loop-r.new.r c.args.t.now c.one_in-loop-r.new.t) c.from_residual-in_err-right.result c.in_err-right.field-0.0 c.from_residual-in_err-right.ensures.1
           (Parts.both_part_bad c.args.levels c.args.r.now c.one.new.r c.loop-r.r c.args.t.now c.one.new.t c.loop-r.t c.in_ok-left.left c.loop-r.left c.in_ok-left.ensures.reads c.one.ensures.on c.loop-r.invariant.2 c.advance.new.r c.one_in-loop-r.new.r c.one_in-loop-r.new.r c.one_in-loop-r.new.t c.one_in-loop-r.new.t c.in_err-right.field-0.0 (c.has.ensures.0 c.loop-r-test.true) c.in_ok-advance.ensures.step (onward c.args.r.now c.loop-r.r c.advance.new.r (onward c.args.r.now c.one.new.r c.loop-r.r c.one.ensures.on c.loop-r.invariant.0) c.advance.ensures.on) c.in_err-right.ensures.reads);
     }
 
@@ -38,7 +38,7 @@ pub choice-returns-in_err-advance : goal.choice-returns-in_err-advance
 choice-returns-in_err-advance t c =
     record {
       on = (onward c.args.r.now c.loop-r.r c.advance.new.r (onward c.args.r.now c.both.new.r c.loop-r.r c.both.ensures.on c.loop-r.invariant.0) c.advance.ensures.on);
-      reads = Parts.broken (ChoiceRead c.args.levels c.args.r.now c.advance.new.r c.args.t.now c.loop-r.t) c.from-residual-in_err-advance.result c.in_err-advance.field-0.0 c.from-residual-in_err-advance.ensures.1
+      reads = Parts.broken (ChoiceRead c.args.levels c.args.r.now c.advance.new.r c.args.t.now c.loop-r.t) c.from_residual-in_err-advance.result c.in_err-advance.field-0.0 c.from_residual-in_err-advance.ensures.1
           (Parts.choice_next_bad c.args.levels c.args.r.now c.both.new.r c.loop-r.r c.args.t.now c.both.new.t c.loop-r.t c.in_ok-left.left c.loop-r.left c.in_ok-left.ensures.reads c.both.ensures.on c.loop-r.invariant.3 c.advance.new.r c.loop-r.t c.in_err-advance.field-0.0 (c.has.ensures.0 c.loop-r-test.true) c.in_err-advance.ensures.step);
     }
 
@@ -46,7 +46,7 @@ pub choice-returns-in_err-right : goal.choice-returns-in_err-right
 choice-returns-in_err-right t c =
     record {
       on = onward c.args.r.now c.advance.new.r c.both-in-loop-r.new.r (onward c.args.r.now c.loop-r.r c.advance.new.r (onward c.args.r.now c.both.new.r c.loop-r.r c.both.ensures.on c.loop-r.invariant.0) c.advance.ensures.on) c.both-in-loop-r.ensures.on;
-      reads = Parts.broken (ChoiceRead c.args.levels c.args.r.now c.both-in-loop-r.new.r c.args.t.now c.both-in-loop-r.new.t) c.from-residual-in_err-right.result c.in_err-right.field-0.0 c.from-residual-in_err-right.ensures.1
+      reads = Parts.broken (ChoiceRead c.args.levels c.args.r.now c.both-in-loop-r.new.r c.args.t.now c.both-in-loop-r.new.t) c.from_residual-in_err-right.result c.in_err-right.field-0.0 c.from_residual-in_err-right.ensures.1
           (Parts.choice_part_bad c.args.levels c.args.r.now c.both.new.r c.loop-r.r c.args.t.now c.both.new.t c.loop-r.t c.in_ok-left.left c.loop-r.left c.in_ok-left.ensures.reads c.both.ensures.on c.loop-r.invariant.3 c.advance.new.r c.both-in-loop-r.new.r c.both-in-loop-r.new.r c.both-in-loop-r.new.t c.both-in-loop-r.new.t c.in_err-right.field-0.0 (c.has.ensures.0 c.loop-r-test.true) c.in_ok-advance.ensures.step (onward c.args.r.now c.loop-r.r c.advance.new.r (onward c.args.r.now c.both.new.r c.loop-r.r c.both.ensures.on c.loop-r.invariant.0) c.advance.ensures.on) c.in_err-right.ensures.reads);
     }
 
@@ -72,7 +72,7 @@ pub one-returns-in_err-enter : goal.one-returns-in_err-enter
 one-returns-in_err-enter t c =
     record {
       on = c.enter.ensures.on;
-      reads = Parts.broken (OneRead c.args.levels c.args.r.now c.enter.new.r c.args.t.now c.args.t.now) c.from-residual.result c.in_err-enter.field-0.0 c.from-residual.ensures.1
+      reads = Parts.broken (OneRead c.args.levels c.args.r.now c.enter.new.r c.args.t.now c.args.t.now) c.from_residual.result c.in_err-enter.field-0.0 c.from_residual.ensures.1
           (Parts.one_not_entered c.args.levels c.args.r.now c.enter.new.r c.enter.new.r c.args.t.now c.args.t.now Yes c.in_err-enter.field-0.0 (c.in-Some.is ∙ ap Some c.in-Yes.is) refl c.in_err-enter.ensures.enters (λ xs o l K. (_, refl)));
     }
 
@@ -80,7 +80,7 @@ pub one-returns-in_err-enter-2 : goal.one-returns-in_err-enter-2
 one-returns-in_err-enter-2 t c =
     record {
       on = c.enter-in-Mark.ensures.on;
-      reads = Parts.broken (OneRead c.args.levels c.args.r.now c.enter-in-Mark.new.r c.args.t.now c.args.t.now) c.from-residual-in_err-enter-2.result c.in_err-enter-2.field-0.0 c.from-residual-in_err-enter-2.ensures.1
+      reads = Parts.broken (OneRead c.args.levels c.args.r.now c.enter-in-Mark.new.r c.args.t.now c.args.t.now) c.from_residual-in_err-enter-2.result c.in_err-enter-2.field-0.0 c.from_residual-in_err-enter-2.ensures.1
           (Parts.one_not_entered c.args.levels c.args.r.now c.enter-in-Mark.new.r c.enter-in-Mark.new.r c.args.t.now c.args.t.now (Mark c.in-Mark.k) c.in_err-enter-2.field-0.0 (c.in-Some.is ∙ ap Some c.in-Mark.is) refl c.in_err-enter-2.ensures.enters (λ xs o l K. (_, refl)));
     }
 
@@ -88,7 +88,7 @@ pub one-returns-in_err-enter-3 : goal.one-returns-in_err-enter-3
 one-returns-in_err-enter-3 t c =
     record {
       on = c.enter-in-Condition.ensures.on;
-      reads = Parts.broken (OneRead c.args.levels c.args.r.now c.enter-in-Condition.new.r c.args.t.now c.args.t.now) c.from-residual-in_err-enter-3.result c.in_err-enter-3.field-0.0 c.from-residual-in_err-enter-3.ensures.1
+      reads = Parts.broken (OneRead c.args.levels c.args.r.now c.enter-in-Condition.new.r c.args.t.now c.args.t.now) c.from_residual-in_err-enter-3.result c.in_err-enter-3.field-0.0 c.from_residual-in_err-enter-3.ensures.1
           (Parts.one_not_entered c.args.levels c.args.r.now c.enter-in-Condition.new.r c.enter-in-Condition.new.r c.args.t.now c.args.t.now (Condition c.in-Condition.k) c.in_err-enter-3.field-0.0 (c.in-Some.is ∙ ap Some c.in-Condition.is) refl c.in_err-enter-3.ensures.enters (λ xs o l K. (_, refl)));
     }
 
@@ -96,7 +96,7 @@ pub one-returns-in_err-enter-4 : goal.one-returns-in_err-enter-4
 one-returns-in_err-enter-4 t c =
     record {
       on = c.enter-in-Before.ensures.on;
-      reads = Parts.broken (OneRead c.args.levels c.args.r.now c.enter-in-Before.new.r c.args.t.now c.args.t.now) c.from-residual-in_err-enter-4.result c.in_err-enter-4.field-0.0 c.from-residual-in_err-enter-4.ensures.1
+      reads = Parts.broken (OneRead c.args.levels c.args.r.now c.enter-in-Before.new.r c.args.t.now c.args.t.now) c.from_residual-in_err-enter-4.result c.in_err-enter-4.field-0.0 c.from_residual-in_err-enter-4.ensures.1
           (Parts.one_not_entered c.args.levels c.args.r.now c.enter-in-Before.new.r c.enter-in-Before.new.r c.args.t.now c.args.t.now (Before c.in-Before.prefix) c.in_err-enter-4.field-0.0 (c.in-Some.is ∙ ap Some c.in-Before.is) refl c.in_err-enter-4.ensures.enters (λ xs o l K. (_, refl)));
     }
 
@@ -104,7 +104,7 @@ pub one-returns-in_err-enter-5 : goal.one-returns-in_err-enter-5
 one-returns-in_err-enter-5 t c =
     record {
       on = c.enter-in-Open.ensures.on;
-      reads = Parts.broken (OneRead c.args.levels c.args.r.now c.enter-in-Open.new.r c.args.t.now c.args.t.now) c.from-residual-in_err-enter-5.result c.in_err-enter-5.field-0.0 c.from-residual-in_err-enter-5.ensures.1
+      reads = Parts.broken (OneRead c.args.levels c.args.r.now c.enter-in-Open.new.r c.args.t.now c.args.t.now) c.from_residual-in_err-enter-5.result c.in_err-enter-5.field-0.0 c.from_residual-in_err-enter-5.ensures.1
           (Parts.one_not_entered c.args.levels c.args.r.now c.enter-in-Open.new.r c.enter-in-Open.new.r c.args.t.now c.args.t.now Open c.in_err-enter-5.field-0.0 (c.in-Some.is ∙ ap Some c.in-Open.is) refl c.in_err-enter-5.ensures.enters (λ xs o l K. (_, refl)));
     }
 
@@ -112,7 +112,7 @@ pub one-returns-in_err-enter-6 : goal.one-returns-in_err-enter-6
 one-returns-in_err-enter-6 t c =
     record {
       on = c.enter-in-Routes.ensures.on;
-      reads = Parts.broken (OneRead c.args.levels c.args.r.now c.enter-in-Routes.new.r c.args.t.now c.args.t.now) c.from-residual-in_err-enter-6.result c.in_err-enter-6.field-0.0 c.from-residual-in_err-enter-6.ensures.1
+      reads = Parts.broken (OneRead c.args.levels c.args.r.now c.enter-in-Routes.new.r c.args.t.now c.args.t.now) c.from_residual-in_err-enter-6.result c.in_err-enter-6.field-0.0 c.from_residual-in_err-enter-6.ensures.1
           (Parts.one_not_entered c.args.levels c.args.r.now c.enter-in-Routes.new.r c.enter-in-Routes.new.r c.args.t.now c.args.t.now (Routes c.in-Routes.quantifier) c.in_err-enter-6.field-0.0 (c.in-Some.is ∙ ap Some c.in-Routes.is) refl c.in_err-enter-6.ensures.enters (λ xs o l K. (_, refl)));
     }
 
@@ -154,7 +154,7 @@ pub one-returns-in_err-part : goal.one-returns-in_err-part
 one-returns-in_err-part t c =
     record {
       on = onward c.args.r.now c.enter-in-Before.new.r c.one.new.r c.enter-in-Before.ensures.on c.one.ensures.on;
-      reads = Parts.broken (OneRead c.args.levels c.args.r.now c.one.new.r c.args.t.now c.one.new.t) c.from-residual-in_err-part.result c.in_err-part.field-0.0 c.from-residual-in_err-part.ensures.1
+      reads = Parts.broken (OneRead c.args.levels c.args.r.now c.one.new.r c.args.t.now c.one.new.t) c.from_residual-in_err-part.result c.in_err-part.field-0.0 c.from_residual-in_err-part.ensures.1
           (Parts.one_prefix_not c.in-Before.prefix c.args.levels c.args.r.now c.enter-in-Before.new.r c.one.new.r c.one.new.r c.args.t.now c.open_prefix.new.t c.one.new.t c.one.new.t c.in_err-part.field-0.0 (c.in-Some.is ∙ ap Some c.in-Before.is) c.in_ok-enter-4.ensures.enters c.enter-in-Before.ensures.on c.in_err-part.ensures.reads);
     }
 
@@ -162,7 +162,7 @@ pub one-returns-in_err-whole : goal.one-returns-in_err-whole
 one-returns-in_err-whole t c =
     record {
       on = (onward c.args.r.now c.enter-in-Open.new.r c.choice.new.r c.enter-in-Open.ensures.on c.choice.ensures.on);
-      reads = Parts.broken (OneRead c.args.levels c.args.r.now c.choice.new.r c.args.t.now c.choice.new.t) c.from-residual-in_err-whole.result c.in_err-whole.field-0.0 c.from-residual-in_err-whole.ensures.1
+      reads = Parts.broken (OneRead c.args.levels c.args.r.now c.choice.new.r c.args.t.now c.choice.new.t) c.from_residual-in_err-whole.result c.in_err-whole.field-0.0 c.from_residual-in_err-whole.ensures.1
           (Parts.one_bracket_not c.args.levels c.args.r.now c.enter-in-Open.new.r (c.in-Some.is ∙ ap Some c.in-Open.is) c.in_ok-enter-5.ensures.enters c.enter-in-Open.ensures.on c.choice.new.r c.choice.new.r c.args.t.now c.choice.new.t c.args.t.now c.choice.new.t c.in_err-whole.field-0.0 c.in_err-whole.ensures.reads);
     }
 
@@ -170,7 +170,7 @@ pub one-returns-in_err-take : goal.one-returns-in_err-take
 one-returns-in_err-take t c =
     record {
       on = (onward c.args.r.now c.choice.new.r c.take.new.r (onward c.args.r.now c.enter-in-Open.new.r c.choice.new.r c.enter-in-Open.ensures.on c.choice.ensures.on) c.take.ensures.on);
-      reads = Parts.broken (OneRead c.args.levels c.args.r.now c.take.new.r c.args.t.now c.choice.new.t) c.from-residual-in_err-take.result c.in_err-take.field-0.0 c.from-residual-in_err-take.ensures.1
+      reads = Parts.broken (OneRead c.args.levels c.args.r.now c.take.new.r c.args.t.now c.choice.new.t) c.from_residual-in_err-take.result c.in_err-take.field-0.0 c.from_residual-in_err-take.ensures.1
           (Parts.one_bracket_open c.args.levels c.args.r.now c.enter-in-Open.new.r (c.in-Some.is ∙ ap Some c.in-Open.is) c.in_ok-enter-5.ensures.enters c.enter-in-Open.ensures.on c.choice.new.r c.take.new.r c.args.t.now c.choice.new.t c.args.t.now c.choice.new.t c.in_ok-whole.whole c.in_err-take.field-0.0 c.in_ok-whole.ensures.reads c.choice.ensures.on c.in_err-take.ensures.takes);
     }
 
@@ -185,7 +185,7 @@ pub one-returns-in_err-take-2 : goal.one-returns-in_err-take-2
 one-returns-in_err-take-2 t c =
     record {
       on = (onward c.args.r.now c.enter-in-Routes.new.r c.take-in-Routes.new.r c.enter-in-Routes.ensures.on c.take-in-Routes.ensures.on);
-      reads = Parts.broken (OneRead c.args.levels c.args.r.now c.take-in-Routes.new.r c.args.t.now c.args.t.now) c.from-residual-in_err-take-2.result c.in_err-take-2.field-0.0 c.from-residual-in_err-take-2.ensures.1
+      reads = Parts.broken (OneRead c.args.levels c.args.r.now c.take-in-Routes.new.r c.args.t.now c.args.t.now) c.from_residual-in_err-take-2.result c.in_err-take-2.field-0.0 c.from_residual-in_err-take-2.ensures.1
           (Parts.one_until_square c.in-Routes.quantifier c.args.levels c.args.r.now c.enter-in-Routes.new.r (c.in-Some.is ∙ ap Some c.in-Routes.is) c.in_ok-enter-6.ensures.enters c.enter-in-Routes.ensures.on c.take-in-Routes.new.r c.args.t.now c.args.t.now c.in_err-take-2.field-0.0 c.in_err-take-2.ensures.takes);
     }
 
@@ -193,7 +193,7 @@ pub one-returns-in_err-p : goal.one-returns-in_err-p
 one-returns-in_err-p t c =
     record {
       on = (onward c.args.r.now c.take-in-Routes.new.r c.choice-in-Routes.new.r (onward c.args.r.now c.enter-in-Routes.new.r c.take-in-Routes.new.r c.enter-in-Routes.ensures.on c.take-in-Routes.ensures.on) c.choice-in-Routes.ensures.on);
-      reads = Parts.broken (OneRead c.args.levels c.args.r.now c.choice-in-Routes.new.r c.args.t.now c.choice-in-Routes.new.t) c.from-residual-in_err-p.result c.in_err-p.field-0.0 c.from-residual-in_err-p.ensures.1
+      reads = Parts.broken (OneRead c.args.levels c.args.r.now c.choice-in-Routes.new.r c.args.t.now c.choice-in-Routes.new.t) c.from_residual-in_err-p.result c.in_err-p.field-0.0 c.from_residual-in_err-p.ensures.1
           (Parts.one_until_first_not c.in-Routes.quantifier c.args.levels c.args.r.now c.enter-in-Routes.new.r (c.in-Some.is ∙ ap Some c.in-Routes.is) c.in_ok-enter-6.ensures.enters c.enter-in-Routes.ensures.on c.take-in-Routes.new.r c.in_ok-take-2.ensures.takes c.take-in-Routes.ensures.on c.choice-in-Routes.new.r c.choice-in-Routes.new.r c.args.t.now c.choice-in-Routes.new.t c.args.t.now c.choice-in-Routes.new.t c.in_err-p.field-0.0 c.in_err-p.ensures.reads);
     }
 
@@ -201,7 +201,7 @@ pub one-returns-in_err-take-3 : goal.one-returns-in_err-take-3
 one-returns-in_err-take-3 t c =
     record {
       on = (onward c.args.r.now c.choice-in-Routes.new.r c.take-in-Routes-2.new.r (onward c.args.r.now c.take-in-Routes.new.r c.choice-in-Routes.new.r (onward c.args.r.now c.enter-in-Routes.new.r c.take-in-Routes.new.r c.enter-in-Routes.ensures.on c.take-in-Routes.ensures.on) c.choice-in-Routes.ensures.on) c.take-in-Routes-2.ensures.on);
-      reads = Parts.broken (OneRead c.args.levels c.args.r.now c.take-in-Routes-2.new.r c.args.t.now c.choice-in-Routes.new.t) c.from-residual-in_err-take-3.result c.in_err-take-3.field-0.0 c.from-residual-in_err-take-3.ensures.1
+      reads = Parts.broken (OneRead c.args.levels c.args.r.now c.take-in-Routes-2.new.r c.args.t.now c.choice-in-Routes.new.t) c.from_residual-in_err-take-3.result c.in_err-take-3.field-0.0 c.from_residual-in_err-take-3.ensures.1
           (Parts.one_until_missing c.in-Routes.quantifier c.args.levels c.args.r.now c.enter-in-Routes.new.r (c.in-Some.is ∙ ap Some c.in-Routes.is) c.in_ok-enter-6.ensures.enters c.enter-in-Routes.ensures.on c.take-in-Routes.new.r c.in_ok-take-2.ensures.takes c.take-in-Routes.ensures.on c.choice-in-Routes.new.r c.args.t.now c.choice-in-Routes.new.t c.in_ok-p.p c.in_ok-p.ensures.reads c.choice-in-Routes.ensures.on c.take-in-Routes-2.new.r c.args.t.now c.choice-in-Routes.new.t c.in_err-take-3.field-0.0 c.in_err-take-3.ensures.takes);
     }
 
@@ -209,7 +209,7 @@ pub one-returns-in_err-q : goal.one-returns-in_err-q
 one-returns-in_err-q t c =
     record {
       on = (onward c.args.r.now c.take-in-Routes-2.new.r c.choice-in-Routes-2.new.r (onward c.args.r.now c.choice-in-Routes.new.r c.take-in-Routes-2.new.r (onward c.args.r.now c.take-in-Routes.new.r c.choice-in-Routes.new.r (onward c.args.r.now c.enter-in-Routes.new.r c.take-in-Routes.new.r c.enter-in-Routes.ensures.on c.take-in-Routes.ensures.on) c.choice-in-Routes.ensures.on) c.take-in-Routes-2.ensures.on) c.choice-in-Routes-2.ensures.on);
-      reads = Parts.broken (OneRead c.args.levels c.args.r.now c.choice-in-Routes-2.new.r c.args.t.now c.choice-in-Routes-2.new.t) c.from-residual-in_err-q.result c.in_err-q.field-0.0 c.from-residual-in_err-q.ensures.1
+      reads = Parts.broken (OneRead c.args.levels c.args.r.now c.choice-in-Routes-2.new.r c.args.t.now c.choice-in-Routes-2.new.t) c.from_residual-in_err-q.result c.in_err-q.field-0.0 c.from_residual-in_err-q.ensures.1
           (Parts.one_until_second_not c.in-Routes.quantifier c.args.levels c.args.r.now c.enter-in-Routes.new.r (c.in-Some.is ∙ ap Some c.in-Routes.is) c.in_ok-enter-6.ensures.enters c.enter-in-Routes.ensures.on c.take-in-Routes.new.r c.in_ok-take-2.ensures.takes c.take-in-Routes.ensures.on c.choice-in-Routes.new.r c.args.t.now c.choice-in-Routes.new.t c.in_ok-p.p c.in_ok-p.ensures.reads c.choice-in-Routes.ensures.on c.take-in-Routes-2.new.r c.in_ok-take-3.ensures.takes c.take-in-Routes-2.ensures.on c.choice-in-Routes-2.new.r c.choice-in-Routes-2.new.r c.choice-in-Routes.new.t c.choice-in-Routes-2.new.t c.args.t.now c.choice-in-Routes-2.new.t c.in_err-q.field-0.0 c.in_err-q.ensures.reads);
     }
 
@@ -217,7 +217,7 @@ pub one-returns-in_err-take-4 : goal.one-returns-in_err-take-4
 one-returns-in_err-take-4 t c =
     record {
       on = (onward c.args.r.now c.choice-in-Routes-2.new.r c.take-in-Routes-3.new.r (onward c.args.r.now c.take-in-Routes-2.new.r c.choice-in-Routes-2.new.r (onward c.args.r.now c.choice-in-Routes.new.r c.take-in-Routes-2.new.r (onward c.args.r.now c.take-in-Routes.new.r c.choice-in-Routes.new.r (onward c.args.r.now c.enter-in-Routes.new.r c.take-in-Routes.new.r c.enter-in-Routes.ensures.on c.take-in-Routes.ensures.on) c.choice-in-Routes.ensures.on) c.take-in-Routes-2.ensures.on) c.choice-in-Routes-2.ensures.on) c.take-in-Routes-3.ensures.on);
-      reads = Parts.broken (OneRead c.args.levels c.args.r.now c.take-in-Routes-3.new.r c.args.t.now c.choice-in-Routes-2.new.t) c.from-residual-in_err-take-4.result c.in_err-take-4.field-0.0 c.from-residual-in_err-take-4.ensures.1
+      reads = Parts.broken (OneRead c.args.levels c.args.r.now c.take-in-Routes-3.new.r c.args.t.now c.choice-in-Routes-2.new.t) c.from_residual-in_err-take-4.result c.in_err-take-4.field-0.0 c.from_residual-in_err-take-4.ensures.1
           (Parts.one_until_open c.in-Routes.quantifier c.args.levels c.args.r.now c.enter-in-Routes.new.r (c.in-Some.is ∙ ap Some c.in-Routes.is) c.in_ok-enter-6.ensures.enters c.enter-in-Routes.ensures.on c.take-in-Routes.new.r c.in_ok-take-2.ensures.takes c.take-in-Routes.ensures.on c.choice-in-Routes.new.r c.args.t.now c.choice-in-Routes.new.t c.in_ok-p.p c.in_ok-p.ensures.reads c.choice-in-Routes.ensures.on c.take-in-Routes-2.new.r c.in_ok-take-3.ensures.takes c.take-in-Routes-2.ensures.on c.choice-in-Routes-2.new.r c.choice-in-Routes-2.new.t c.in_ok-q.q c.in_ok-q.ensures.reads c.choice-in-Routes-2.ensures.on c.take-in-Routes-3.new.r c.args.t.now c.choice-in-Routes-2.new.t c.in_err-take-4.field-0.0 c.in_err-take-4.ensures.takes);
     }
 
@@ -232,20 +232,20 @@ one-returns-in_ok-take-4 t c =
           first.2 second.2 c.close_until.ensures.rows c.close_until.ensures.last);
     }
 
-pub one-returns-in-default : goal.one-returns-in-default
-one-returns-in-default t c =
+pub one-returns-in_default : goal.one-returns-in_default
+one-returns-in_default t c =
     record {
       on = search rules;
-      reads = λ xs o l K d. cut c.args.r.now _ c.in-default.is refl ∙ ap Err (sym c.unfit.ensures);
+      reads = λ xs o l K d. cut c.args.r.now _ c.in_default.is refl ∙ ap Err (sym c.unfit.ensures);
     }
 
-pub one-returns-in-default-word : goal.one-returns-in-default-word
-one-returns-in-default-word t c =
+pub one-returns-in_default-word : goal.one-returns-in_default-word
+one-returns-in_default-word t c =
     record {
       on = search rules;
       reads = λ xs o l K d. stuck _ c.args.r.now c.in-Some.word _ c.in-Some.is
-          (no_starter c.in-Some.word xs o l K c.in-default-word.not-Yes c.in-default-word.not-Mark c.in-default-word.not-Condition c.in-default-word.not-Before c.in-default-word.not-Routes c.in-default-word.not-Open)
-          ∙ ap Err (sym c.unfit-in-default-word.ensures);
+          (no_starter c.in-Some.word xs o l K c.in_default-word.not-Yes c.in_default-word.not-Mark c.in_default-word.not-Condition c.in_default-word.not-Before c.in_default-word.not-Routes c.in_default-word.not-Open)
+          ∙ ap Err (sym c.unfit-in_default-word.ensures);
     }
 
 pub both-returns : goal.both-returns

@@ -9,12 +9,12 @@ returns-then-text-gt-MOST_BYTES c = too_long c.args.text.now c.if-text-gt-MOST_B
 pub returns-in_err-advance : goal.returns-in_err-advance
 returns-in_err-advance c =
     let bad_next = c.in_err-advance.ensures.step in
-    left_with (Answer c.args.conditions c.args.text.now) c.from-residual.result c.in_err-advance.field-0.0 c.from-residual.ensures.1
+    left_with (Answer c.args.conditions c.args.text.now) c.from_residual.result c.in_err-advance.field-0.0 c.from_residual.ensures.1
     (first_bad c.args.conditions c.args.text.now (omega arith) c.in_err-advance.field-0.0 bad_next.0 bad_next.1)
 
 pub returns-in_err-choice : goal.returns-in_err-choice
 returns-in_err-choice c =
-    left_with (Answer c.args.conditions c.args.text.now) c.from-residual-in_err-choice.result c.in_err-choice.field-0.0 c.from-residual-in_err-choice.ensures.1
+    left_with (Answer c.args.conditions c.args.text.now) c.from_residual-in_err-choice.result c.in_err-choice.field-0.0 c.from_residual-in_err-choice.ensures.1
     (choice_bad c.args.conditions c.args.text.now (omega arith) c.advance.new.r c.choice.new.r c.choice.new.t c.choice.new.t 0 c.in_ok-advance.ensures.step.reads (ap (λ x. length x.now) c.advance.ensures.on.text_same) (ap (λ x. length x.now) (c.choice.ensures.on.text_same ∙ c.advance.ensures.on.text_same)) c.in_err-choice.field-0.0 c.in_err-choice.ensures.reads)
 
 pub returns-then-is_some : goal.returns-then-is_some

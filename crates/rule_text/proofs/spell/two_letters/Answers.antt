@@ -21,36 +21,36 @@ returns-in-65-2 c = ap two_letters (sym (pair c.args.letters.now 65 70 (omega (a
 pub returns-in-65-3 : goal.returns-in-65-3
 returns-in-65-3 c = ap two_letters (sym (pair c.args.letters.now 65 71 (omega (arith, ltb-true, ltb-false)) (omega arith) (omega arith)))
 
-pub returns-in-default : goal.returns-in-default
-returns-in-default c =
+pub returns-in_default : goal.returns-in_default
+returns-in_default c =
     other_two c.args.letters.now
     (λ l a b. omega (arith, ltb-true, ltb-false)) (λ l a b. omega (arith, ltb-true, ltb-false))
     (λ l a b. omega (arith, ltb-true, ltb-false)) (λ l a b. omega (arith, ltb-true, ltb-false))
     (λ l a b. omega (arith, ltb-true, ltb-false)) (λ l a b. omega (arith, ltb-true, ltb-false))
 
-pub returns-in-default·2 : goal.returns-in-default·2
-returns-in-default·2 c =
+pub returns-in_default-2 : goal.returns-in_default-2
+returns-in_default-2 c =
     other_two c.args.letters.now
     (λ l a b. omega (arith, ltb-true, ltb-false)) (λ l a b. omega (arith, ltb-true, ltb-false))
     (λ l a b. omega (arith, ltb-true, ltb-false)) (λ l a b. omega (arith, ltb-true, ltb-false))
     (λ l a b. omega (arith, ltb-true, ltb-false)) (λ l a b. omega (arith, ltb-true, ltb-false))
 
-pub returns-in-default·3 : goal.returns-in-default·3
-returns-in-default·3 c =
+pub returns-in_default-3 : goal.returns-in_default-3
+returns-in_default-3 c =
     other_two c.args.letters.now
     (λ l a b. omega (arith, ltb-true, ltb-false)) (λ l a b. omega (arith, ltb-true, ltb-false))
     (λ l a b. omega (arith, ltb-true, ltb-false)) (λ l a b. omega (arith, ltb-true, ltb-false))
     (λ l a b. omega (arith, ltb-true, ltb-false)) (λ l a b. omega (arith, ltb-true, ltb-false))
 
-pub returns-in-default·4 : goal.returns-in-default·4
-returns-in-default·4 c =
+pub returns-in_default-4 : goal.returns-in_default-4
+returns-in_default-4 c =
     other_two c.args.letters.now
     (λ l a b. omega (arith, ltb-true, ltb-false)) (λ l a b. omega (arith, ltb-true, ltb-false))
     (λ l a b. omega (arith, ltb-true, ltb-false)) (λ l a b. omega (arith, ltb-true, ltb-false))
     (λ l a b. omega (arith, ltb-true, ltb-false)) (λ l a b. omega (arith, ltb-true, ltb-false))
 
-pub returns-in-default·5 : goal.returns-in-default·5
-returns-in-default·5 c =
+pub returns-in_default-5 : goal.returns-in_default-5
+returns-in_default-5 c =
     other_two c.args.letters.now
     (λ l a b. omega (arith, ltb-true, ltb-false)) (λ l a b. omega (arith, ltb-true, ltb-false))
     (λ l a b. omega (arith, ltb-true, ltb-false)) (λ l a b. omega (arith, ltb-true, ltb-false))

@@ -4,14 +4,14 @@ use Rattle.rule_text.specs.Words.{number_from}
 use Rattle.rule_text.proofs.Spelled.{digit_step, no_digit}
 use Rattle.rule_text.proofs.spell.value.Goals as goal
 
-pub returns-in-default : goal.returns-in-default
-returns-in-default c =
+pub returns-in_default : goal.returns-in_default
+returns-in_default c =
     let inv = c.loop-d.invariant.1 in
     sym inv.2 ∙ at_drop_more (number_from inv.0) c.args.digits.now c.loop-d.d-index 0 (omega arith)
     ∙ no_digit inv.0 (get_or c.args.digits.now c.loop-d.d-index 0) (drop (c.loop-d.d-index + 1) c.args.digits.now) (λ a b. omega arith)
 
-pub returns-in-default·2 : goal.returns-in-default·2
-returns-in-default·2 c =
+pub returns-in_default-2 : goal.returns-in_default-2
+returns-in_default-2 c =
     let inv = c.loop-d.invariant.1 in
     sym inv.2 ∙ at_drop_more (number_from inv.0) c.args.digits.now c.loop-d.d-index 0 (omega arith)
     ∙ no_digit inv.0 (get_or c.args.digits.now c.loop-d.d-index 0) (drop (c.loop-d.d-index + 1) c.args.digits.now) (λ a b. omega arith)

@@ -8,4 +8,4 @@ use Rattle.verdicts.proofs.entries.at_entries.Given as goal
 abbrev pub invariant-loop-place : goal.invariant-loop-place
 invariant-loop-place g l =
     let N = g.N.Network.meaning l.net in
-    (x : Pos) → Within N x → x.place < l.place → Entry N x.place → Is (covers g.Set.ConditionSet.holds l.part) x
+    (x : Pos) → Within N x → x.place < l.place → Entry N x.place → Is (covers g.N.Set.ConditionSet.holds l.part) x

@@ -23,7 +23,7 @@ at_entries-verdict-requires g c =
 
 pub returns : goal.returns
 returns g c =
-    let holds = g.Set.ConditionSet.holds in
+    let holds = g.N.Set.ConditionSet.holds in
     let N : Net = g.N.Network.meaning c.args.net.now in
     let rows = c.args.table.now in
     let i : ℕ = length rows - 1 in

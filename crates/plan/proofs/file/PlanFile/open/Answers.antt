@@ -28,21 +28,21 @@ returns-in-Some-texts_fault c =
     c.refused-in-Some-texts_fault.ensures.0 c.refused-in-Some-texts_fault.ensures.1 c.in-Some-texts_fault.ensures
 
 pub texts_fault-requires : goal.texts_fault-requires
-texts_fault-requires c = passed c.args.bytes.now _ c.shape_fault.ensures c.in-default.is
+texts_fault-requires c = passed c.args.bytes.now _ c.shape_fault.ensures c.in_default.is
 
 pub field_of_2-requires : goal.field_of_2-requires
-field_of_2-requires c = let s = shaped_of c.args.bytes.now (passed c.args.bytes.now _ c.shape_fault.ensures c.in-default.is) in omega arith
+field_of_2-requires c = let s = shaped_of c.args.bytes.now (passed c.args.bytes.now _ c.shape_fault.ensures c.in_default.is) in omega arith
 
 pub field_of_2-requires-2 : goal.field_of_2-requires-2
-field_of_2-requires-2 c = let s = shaped_of c.args.bytes.now (passed c.args.bytes.now _ c.shape_fault.ensures c.in-default.is) in omega arith
+field_of_2-requires-2 c = let s = shaped_of c.args.bytes.now (passed c.args.bytes.now _ c.shape_fault.ensures c.in_default.is) in omega arith
 
 pub field_of_2-requires-3 : goal.field_of_2-requires-3
-field_of_2-requires-3 c = let s = shaped_of c.args.bytes.now (passed c.args.bytes.now _ c.shape_fault.ensures c.in-default.is) in omega arith
+field_of_2-requires-3 c = let s = shaped_of c.args.bytes.now (passed c.args.bytes.now _ c.shape_fault.ensures c.in_default.is) in omega arith
 
 pub invariant_of-result : goal.invariant_of-result
 invariant_of-result c =
     let file = c.args.bytes.now in
-    let none = passed file _ c.shape_fault.ensures c.in-default.is in
+    let none = passed file _ c.shape_fault.ensures c.in_default.is in
     let s = shaped_of file none in
     let rise = rule_bytes_rise file (rule_count file) in (
       none,
@@ -60,7 +60,7 @@ invariant_of-result c =
                   omega arith,
                   (
                     inside_listed (place_count file) (binding_count file) (binding_at file) (λ k below. let fit = s.ends k below in (fit.from_in, fit.to_in)),
-                    (∣ c.in-default-texts_fault.ensures ∣₁, tt),
+                    (∣ c.in_default-texts_fault.ensures ∣₁, tt),
                   ),
                 ),
               ),
@@ -73,5 +73,5 @@ invariant_of-result c =
 pub returns : goal.returns
 returns c =
     let file = c.args.bytes.now in
-    let s = shaped_of file (passed file _ c.shape_fault.ensures c.in-default.is) in
-    (refl, file_is_plan file c.type_inv.bytes s c.in-default-texts_fault.ensures)
+    let s = shaped_of file (passed file _ c.shape_fault.ensures c.in_default.is) in
+    (refl, file_is_plan file c.type_inv.bytes s c.in_default-texts_fault.ensures)

@@ -9,10 +9,10 @@ use Rattle.plan.specs.Reading.{TextsRead}
 use Rattle.plan.proofs.Listed.{listed_at, past_end}
 use Rattle.plan.proofs.file.PlanFile.table.Goals as goal
 
-pub returns-in-default : goal.returns-in-default
-returns-in-default c =
+pub returns-in_default : goal.returns-in_default
+returns-in_default c =
     let file = c.args.self.now.bytes.now in
-    let past = past_end (listed (rule_count file) (text_at file)) _ (sym c.in-default.ensures) in
+    let past = past_end (listed (rule_count file) (text_at file)) _ (sym c.in_default.ensures) in
     omega arith
 
 -- A text that is a rule is not refused.

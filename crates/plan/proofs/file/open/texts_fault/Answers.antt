@@ -42,7 +42,7 @@ text_is file text byte i at is = is ∙ ap (λ (b : ℕ). take (field 2 b file) 
 pub loop-rule-preserved : goal.loop-rule-preserved
 loop-rule-preserved c =
     let file = c.args.file.now in
-    let answer = c.in-default.ensures.answer in
+    let answer = c.in_default.ensures.answer in
     let same = text_is file c.text_of-text.result.now c.loop-rule.byte c.loop-rule.rule c.loop-rule.invariant.0 c.text_of-text.ensures.0 in (
       rule_byte_next file c.loop-rule.rule c.loop-rule.byte _ c.loop-rule.invariant.0 c.text_of-text.ensures.1,
       below_more (λ (j : ℕ). IsRuleText (text_at file j)) c.loop-rule.rule c.loop-rule.invariant.1 (answer.0, subst (λ (t : List ℕ). Reading 6 t (Ok answer.0)) same answer.1),

@@ -5,14 +5,14 @@ use Rattle.rounds.specs.Rounds.{Kept, Stable, Decided}
 use Rattle.rounds.proofs.Settle.{always_settled}
 use Rattle.judging.specs.Judged.{covers}
 use Rattle.judging.proofs.Turns.{kept_turn, turn_ends, turn_keeps, lists_same, lists_go_on, least_at, has_at}
-use Rattle.judging.proofs.rounds.always_rounds.Goals as goal
+use Rattle.judging.proofs.row_rounds.always_rounds.Goals as goal
 
 pub loop-round-init : goal.loop-round-init
 loop-round-init g c = record { has = λ x w. (λ e. e, λ e. e); moving = λ j l. absurd (omega arith) }
 
 pub loop-round-preserved : goal.loop-round-preserved
 loop-round-preserved g c =
-    let holds = g.Set.ConditionSet.holds in
+    let holds = g.N.Set.ConditionSet.holds in
     let N : Net = g.N.Network.meaning c.args.net.now in
     let T : ℕ → Pos → Type 0 = Kept N (Is (covers holds c.args.part.now)) in
     let i = c.loop-round.round in
@@ -22,12 +22,12 @@ loop-round-preserved g c =
     let next : Decided N (covers holds after) (T (suc i)) =
     kept_turn N (Is (covers holds c.args.part.now)) (covers holds c.args.rests.now) (covers holds part) (covers holds c.steps_into.new.out) (covers holds after) i
     c.requires.rested c.loop-round.invariant.has c.steps_into.ensures (λ x w. c.shrink.ensures.after x (let l = w.place_in in omega arith)) in
-    lists_go_on holds g.Set.ConditionSet.count g.met.Set.ConditionSet.below N c.requires.over T part after i long c.loop-round.invariant next
+    lists_go_on holds g.N.Set.ConditionSet.count g.met.N.Set.ConditionSet.below N c.requires.over T part after i long c.loop-round.invariant next
     c.shrink.result c.shrink.ensures.same c.if-shrink.false
 
 pub returns-then-shrink : goal.returns-then-shrink
 returns-then-shrink g c =
-    let holds = g.Set.ConditionSet.holds in
+    let holds = g.N.Set.ConditionSet.holds in
     let N : Net = g.N.Network.meaning c.args.net.now in
     let T : ℕ → Pos → Type 0 = Kept N (Is (covers holds c.args.part.now)) in
     let i = c.loop-round.round in
@@ -37,7 +37,7 @@ returns-then-shrink g c =
     let next : Decided N (covers holds after) (T (suc i)) =
     kept_turn N (Is (covers holds c.args.part.now)) (covers holds c.args.rests.now) (covers holds part) (covers holds c.steps_into.new.out) (covers holds after) i
     c.requires.rested c.loop-round.invariant.has c.steps_into.ensures (λ x w. c.shrink.ensures.after x (let l = w.place_in in omega arith)) in
-    let same = lists_same holds g.Set.ConditionSet.count g.met.Set.ConditionSet.below N c.requires.over T part after i long c.loop-round.invariant next
+    let same = lists_same holds g.N.Set.ConditionSet.count g.met.N.Set.ConditionSet.below N c.requires.over T part after i long c.loop-round.invariant next
     c.shrink.result c.shrink.ensures.same c.if-shrink.true in
     record {
       few = omega arith;
@@ -47,7 +47,7 @@ returns-then-shrink g c =
 
 pub returns : goal.returns
 returns g c =
-    let holds = g.Set.ConditionSet.holds in
+    let holds = g.N.Set.ConditionSet.holds in
     let N : Net = g.N.Network.meaning c.args.net.now in
     let T : ℕ → Pos → Type 0 = Kept N (Is (covers holds c.args.part.now)) in
     let n = c.places-n.result in

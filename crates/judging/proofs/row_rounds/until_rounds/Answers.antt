@@ -5,14 +5,14 @@ use Rattle.rounds.specs.Rounds.{Grown, Stable, Decided}
 use Rattle.rounds.proofs.Settle.{until_settled}
 use Rattle.judging.specs.Judged.{covers}
 use Rattle.judging.proofs.Turns.{grown_turn, turn_ends, turn_keeps, lists_same, lists_go_on, least_at, has_at}
-use Rattle.judging.proofs.rounds.until_rounds.Goals as goal
+use Rattle.judging.proofs.row_rounds.until_rounds.Goals as goal
 
 pub loop-round-init : goal.loop-round-init
 loop-round-init g c = record { has = λ x w. (λ e. e, λ e. e); moving = λ j l. absurd (omega arith) }
 
 pub loop-round-preserved : goal.loop-round-preserved
 loop-round-preserved g c =
-    let holds = g.Set.ConditionSet.holds in
+    let holds = g.N.Set.ConditionSet.holds in
     let N : Net = g.N.Network.meaning c.args.net.now in
     let T : ℕ → Pos → Type 0 = Grown N (Is (covers holds c.args.p.now)) (Is (covers holds c.args.part.now)) in
     let i = c.loop-round.round in
@@ -22,12 +22,12 @@ loop-round-preserved g c =
     let next : Decided N (covers holds after) (T (suc i)) =
     grown_turn N (Is (covers holds c.args.p.now)) (Is (covers holds c.args.part.now)) (covers holds c.args.p.now) (covers holds part) (covers holds c.steps_into.new.out) (covers holds after) i
     (λ x w. (λ e. e, λ e. e)) c.loop-round.invariant.has c.steps_into.ensures (λ x w. c.grow.ensures.after x (let l = w.place_in in omega arith)) in
-    lists_go_on holds g.Set.ConditionSet.count g.met.Set.ConditionSet.below N c.requires.over T part after i long c.loop-round.invariant next
+    lists_go_on holds g.N.Set.ConditionSet.count g.met.N.Set.ConditionSet.below N c.requires.over T part after i long c.loop-round.invariant next
     c.grow.result c.grow.ensures.same c.if-grow.false
 
 pub returns-then-grow : goal.returns-then-grow
 returns-then-grow g c =
-    let holds = g.Set.ConditionSet.holds in
+    let holds = g.N.Set.ConditionSet.holds in
     let N : Net = g.N.Network.meaning c.args.net.now in
     let T : ℕ → Pos → Type 0 = Grown N (Is (covers holds c.args.p.now)) (Is (covers holds c.args.part.now)) in
     let i = c.loop-round.round in
@@ -37,7 +37,7 @@ returns-then-grow g c =
     let next : Decided N (covers holds after) (T (suc i)) =
     grown_turn N (Is (covers holds c.args.p.now)) (Is (covers holds c.args.part.now)) (covers holds c.args.p.now) (covers holds part) (covers holds c.steps_into.new.out) (covers holds after) i
     (λ x w. (λ e. e, λ e. e)) c.loop-round.invariant.has c.steps_into.ensures (λ x w. c.grow.ensures.after x (let l = w.place_in in omega arith)) in
-    let same = lists_same holds g.Set.ConditionSet.count g.met.Set.ConditionSet.below N c.requires.over T part after i long c.loop-round.invariant next
+    let same = lists_same holds g.N.Set.ConditionSet.count g.met.N.Set.ConditionSet.below N c.requires.over T part after i long c.loop-round.invariant next
     c.grow.result c.grow.ensures.same c.if-grow.true in
     record {
       few = omega arith;
@@ -47,7 +47,7 @@ returns-then-grow g c =
 
 pub returns : goal.returns
 returns g c =
-    let holds = g.Set.ConditionSet.holds in
+    let holds = g.N.Set.ConditionSet.holds in
     let N : Net = g.N.Network.meaning c.args.net.now in
     let T : ℕ → Pos → Type 0 = Grown N (Is (covers holds c.args.p.now)) (Is (covers holds c.args.part.now)) in
     let n = c.places-n.result in

@@ -27,9 +27,9 @@ fn forward<S: ConditionSet>(b: &Binding<S>, sets: &[S], out: &mut [S])
 
 // Writes for each place the settings under which some step leads into the sets.
 pub(crate) fn steps_into<N: Network>(net: &N, sets: &[N::Set], out: &mut [N::Set])
-    requires over { (meaning net.now).conditions ≡ N.Set.ConditionSet.count }
-    requires lengths { (length sets.now ≡ places (meaning net.now)) × (length out.old ≡ places (meaning net.now)) }
-    ensures { Decided (meaning net.now) (covers N.Set.ConditionSet.holds out.new) (SomeNext (meaning net.now) (Is (covers N.Set.ConditionSet.holds sets.now))) }
+    requires over { (N.meaning net.now).conditions ≡ N.Set.ConditionSet.count }
+    requires lengths { (length sets.now ≡ places (N.meaning net.now)) × (length out.old ≡ places (N.meaning net.now)) }
+    ensures { Decided (N.meaning net.now) (covers N.Set.ConditionSet.holds out.new) (SomeNext (N.meaning net.now) (Is (covers N.Set.ConditionSet.holds sets.now))) }
 {
     fill(out, N::Set::none());
     for i in 0..net.bindings() {
@@ -46,11 +46,11 @@ pub(crate) fn until_rounds<N: Network>(
     p: &[N::Set],
     into: &mut [N::Set],
 ) -> usize
-    requires over { (meaning net.now).conditions ≡ N.Set.ConditionSet.count }
-    requires lengths { (length part.old ≡ places (meaning net.now)) × ((length p.now ≡ places (meaning net.now)) × (length into.old ≡ places (meaning net.now))) }
-    ensures few { result ≤ places (meaning net.now) }
-    ensures least { LeastStable (meaning net.now) (Grown (meaning net.now) (Is (covers N.Set.ConditionSet.holds p.now)) (Is (covers N.Set.ConditionSet.holds part.old))) result }
-    ensures after { Decided (meaning net.now) (covers N.Set.ConditionSet.holds part.new) (Grown (meaning net.now) (Is (covers N.Set.ConditionSet.holds p.now)) (Is (covers N.Set.ConditionSet.holds part.old)) result) }
+    requires over { (N.meaning net.now).conditions ≡ N.Set.ConditionSet.count }
+    requires lengths { (length part.old ≡ places (N.meaning net.now)) × ((length p.now ≡ places (N.meaning net.now)) × (length into.old ≡ places (N.meaning net.now))) }
+    ensures few { result ≤ places (N.meaning net.now) }
+    ensures least { LeastStable (N.meaning net.now) (Grown (N.meaning net.now) (Is (covers N.Set.ConditionSet.holds p.now)) (Is (covers N.Set.ConditionSet.holds part.old))) result }
+    ensures after { Decided (N.meaning net.now) (covers N.Set.ConditionSet.holds part.new) (Grown (N.meaning net.now) (Is (covers N.Set.ConditionSet.holds p.now)) (Is (covers N.Set.ConditionSet.holds part.old)) result) }
 {
     let n = net.places();
     for round in 0..n {
@@ -69,12 +69,12 @@ pub(crate) fn always_rounds<N: Network>(
     rests: &[N::Set],
     into: &mut [N::Set],
 ) -> usize
-    requires over { (meaning net.now).conditions ≡ N.Set.ConditionSet.count }
-    requires lengths { (length part.old ≡ places (meaning net.now)) × ((length rests.now ≡ places (meaning net.now)) × (length into.old ≡ places (meaning net.now))) }
-    requires rested { Decided (meaning net.now) (covers N.Set.ConditionSet.holds rests.now) (Rests (meaning net.now)) }
-    ensures few { result ≤ places (meaning net.now) }
-    ensures least { LeastStable (meaning net.now) (Kept (meaning net.now) (Is (covers N.Set.ConditionSet.holds part.old))) result }
-    ensures after { Decided (meaning net.now) (covers N.Set.ConditionSet.holds part.new) (Kept (meaning net.now) (Is (covers N.Set.ConditionSet.holds part.old)) result) }
+    requires over { (N.meaning net.now).conditions ≡ N.Set.ConditionSet.count }
+    requires lengths { (length part.old ≡ places (N.meaning net.now)) × ((length rests.now ≡ places (N.meaning net.now)) × (length into.old ≡ places (N.meaning net.now))) }
+    requires rested { Decided (N.meaning net.now) (covers N.Set.ConditionSet.holds rests.now) (Rests (N.meaning net.now)) }
+    ensures few { result ≤ places (N.meaning net.now) }
+    ensures least { LeastStable (N.meaning net.now) (Kept (N.meaning net.now) (Is (covers N.Set.ConditionSet.holds part.old))) result }
+    ensures after { Decided (N.meaning net.now) (covers N.Set.ConditionSet.holds part.new) (Kept (N.meaning net.now) (Is (covers N.Set.ConditionSet.holds part.old)) result) }
 {
     let n = net.places();
     for round in 0..n {

@@ -2,7 +2,7 @@ use Rattle.std.proofs.Common.{◌≡◌, ◌<◌, true, false, ◌||◌, length,
 use Rattle.std.proofs.lemmas.Bool.{cases_eq, or_cases, or_left, or_right}
 use Rattle.std.proofs.lemmas.Bool.Decides.{not_from_Decides}
 use Rattle.judging.proofs.Covers.{covers_at, covers_read, covers_set_same, covers_set_other}
-use Rattle.judging.proofs.rounds.forward.Goals as goal
+use Rattle.judging.proofs.row_rounds.forward.Goals as goal
 
 pub returns-then-is_entered : goal.returns-then-is_entered
 returns-then-is_entered g c = λ x within.

@@ -5,19 +5,19 @@ use Rattle.rounds.specs.Claims.{Is}
 use Rattle.judging.specs.Judged.{covers}
 use Rattle.judging.proofs.Covers.{covers_below}
 use Rattle.judging.proofs.Into.{Into, By, into_none, into_more, into_all}
-use Rattle.judging.proofs.rounds.steps_into.Goals as goal
-use Rattle.judging.proofs.rounds.steps_into.Goals.{in-Some, in-default}
+use Rattle.judging.proofs.row_rounds.steps_into.Goals as goal
+use Rattle.judging.proofs.row_rounds.steps_into.Goals.{in-Some, in_default}
 
 pub loop-i-init : goal.loop-i-init
 loop-i-init g c = λ x within.
-    let holds = g.Set.ConditionSet.holds in
+    let holds = g.N.Set.ConditionSet.holds in
     let N : Net = g.N.Network.meaning c.args.net.now in
     let in_out : x.place < length c.args.out.now = omega (arith, within.place_in) in
     into_none N (Is (covers holds c.args.sets.now)) _ x (c.fill.ensures x in_out ∙ c.none.ensures x.setting)
 
 pub loop-i-preserved : goal.loop-i-preserved
 loop-i-preserved g c = λ x within.
-    let holds = g.Set.ConditionSet.holds in
+    let holds = g.N.Set.ConditionSet.holds in
     let N : Net = g.N.Network.meaning c.args.net.now in
     let sets = c.args.sets.now in
     let X : Pos → Type 0 = Is (covers holds sets) in
@@ -25,18 +25,18 @@ loop-i-preserved g c = λ x within.
     let i = c.loop-i.i in
     let goal : List g.row.N-Set.Denot → Type 0 = λ o. Decides (covers holds o x) (Into N X (i + 1) x) in
     let below : (y : Pos) → X y → y.setting < settings N =
-    λ y h. subst (λ (k : ℕ). y.setting < 2 ^ k) (sym c.requires.over) (covers_below holds g.Set.ConditionSet.count g.met.Set.ConditionSet.below sets y h) in
+    λ y h. subst (λ (k : ℕ). y.setting < 2 ^ k) (sym c.requires.over) (covers_below holds g.N.Set.ConditionSet.count g.met.N.Set.ConditionSet.below sets y h) in
     elim c.match-binding.branch [
       | in-Some w ↦
           let in_out : x.place < length out = omega (arith, within.place_in) in
           subst goal (sym w.out-is)
           (into_more N X i (linked holds w.in-Some.b) w.in-Some.ensures.value w.in-Some.ensures.ends.1 below
           (covers holds out x) _ x (c.loop-i.invariant x within) (w.forward.ensures x in_out))
-      | in-default w ↦ let past = w.in-default.ensures.value in absurd (omega arith)
+      | in_default w ↦ let past = w.in_default.ensures.value in absurd (omega arith)
     ]
 
 pub returns : goal.returns
 returns g c = λ x within.
-    let holds = g.Set.ConditionSet.holds in
+    let holds = g.N.Set.ConditionSet.holds in
     let N : Net = g.N.Network.meaning c.args.net.now in
     into_all N (Is (covers holds c.args.sets.now)) c.loop-i.i (omega arith) _ x (c.loop-i.invariant x within)
