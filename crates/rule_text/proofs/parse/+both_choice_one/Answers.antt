@@ -19,16 +19,16 @@ both-returns-in_err-advance t c =
 pub both-returns-in_err-right : goal.both-returns-in_err-right
 both-returns-in_err-right t c =
     record {
-      on = onward c.args.r.now c.advance.new.r c.one_in-loop-r.new.r (onward c.args.r.now c.loop-r.r c.advance.new.r (onward c.args.r.now c.one.new.r c.loop-r.r c.one.ensures.on c.loop-r.invariant.0) c.advance.ensures.on) c.one_in-loop-r.ensures.on;
-      reads = Parts.broken (BothRead c.args.levels c.args.r.now c.one_in-loop-r.new.r c.args.t.now c.one_in-loop-r.new.t) c.from_residual-in_err-right.result c.in_err-right.field-0.0 c.from_residual-in_err-right.ensures.1
-          (Parts.both_part_bad c.args.levels c.args.r.now c.one.new.r c.loop-r.r c.args.t.now c.one.new.t c.loop-r.t c.in_ok-left.left c.loop-r.left c.in_ok-left.ensures.reads c.one.ensures.on c.loop-r.invariant.2 c.advance.new.r c.one_in-loop-r.new.r c.one_in-loop-r.new.r c.one_in-loop-r.new.t c.one_in-loop-r.new.t c.in_err-right.field-0.0 (c.has.ensures.0 c.loop-r-test.true) c.in_ok-advance.ensures.step (onward c.args.r.now c.loop-r.r c.advance.new.r (onward c.args.r.now c.one.new.r c.loop-r.r c.one.ensures.on c.loop-r.invariant.0) c.advance.ensures.on) c.in_err-right.ensures.reads);
+      on = onward c.args.r.now c.advance.new.r c.one-in-loop-r.new.r (onward c.args.r.now c.loop-r.r c.advance.new.r (onward c.args.r.now c.one.new.r c.loop-r.r c.one.ensures.on c.loop-r.invariant.0) c.advance.ensures.on) c.one-in-loop-r.ensures.on;
+      reads = Parts.broken (BothRead c.args.levels c.args.r.now c.one-in-loop-r.new.r c.args.t.now c.one-in-loop-r.new.t) c.from_residual-in_err-right.result c.in_err-right.field-0.0 c.from_residual-in_err-right.ensures.1
+          (Parts.both_part_bad c.args.levels c.args.r.now c.one.new.r c.loop-r.r c.args.t.now c.one.new.t c.loop-r.t c.in_ok-left.left c.loop-r.left c.in_ok-left.ensures.reads c.one.ensures.on c.loop-r.invariant.2 c.advance.new.r c.one-in-loop-r.new.r c.one-in-loop-r.new.r c.one-in-loop-r.new.t c.one-in-loop-r.new.t c.in_err-right.field-0.0 (c.has.ensures.0 c.loop-r-test.true) c.in_ok-advance.ensures.step (onward c.args.r.now c.loop-r.r c.advance.new.r (onward c.args.r.now c.one.new.r c.loop-r.r c.one.ensures.on c.loop-r.invariant.0) c.advance.ensures.on) c.in_err-right.ensures.reads);
     }
 
 pub both-loop-r-preserved : goal.both-loop-r-preserved
 both-loop-r-preserved t c = (
-  onward c.one.new.r c.advance.new.r c.one_in-loop-r.new.r (onward c.one.new.r c.loop-r.r c.advance.new.r c.loop-r.invariant.0 c.advance.ensures.on) c.one_in-loop-r.ensures.on,
+  onward c.one.new.r c.advance.new.r c.one-in-loop-r.new.r (onward c.one.new.r c.loop-r.r c.advance.new.r c.loop-r.invariant.0 c.advance.ensures.on) c.one-in-loop-r.ensures.on,
   omega (arith, c.in_ok-right.ensures.reads.2, Parts.later c.loop-r.r c.advance.new.r And (c.has.ensures.0 c.loop-r-test.true) c.in_ok-advance.ensures.step),
-  Parts.joining-more c.args.levels c.one.new.r c.loop-r.r c.advance.new.r c.one_in-loop-r.new.r c.one.new.t c.loop-r.t c.one_in-loop-r.new.t c.emit-left.new.t
+  Parts.joining_more c.args.levels c.one.new.r c.loop-r.r c.advance.new.r c.one-in-loop-r.new.r c.one.new.t c.loop-r.t c.one-in-loop-r.new.t c.emit-left.new.t
       c.in_ok-left.left c.loop-r.left c.in_ok-right.right c.emit-left.result
       c.loop-r.invariant.2 c.loop-r.invariant.0 (c.has.ensures.0 c.loop-r-test.true) c.in_ok-advance.ensures.step c.advance.ensures.on c.in_ok-right.ensures.reads
       c.emit-left.ensures.rows c.emit-left.ensures.last,
@@ -55,7 +55,7 @@ choice-loop-r-preserved t c = (
   onward c.both.new.r c.advance.new.r c.both-in-loop-r.new.r (onward c.both.new.r c.loop-r.r c.advance.new.r c.loop-r.invariant.0 c.advance.ensures.on) c.both-in-loop-r.ensures.on,
   omega (arith, c.in_ok-right.ensures.reads.2, Parts.later c.loop-r.r c.advance.new.r Or (c.has.ensures.0 c.loop-r-test.true) c.in_ok-advance.ensures.step),
   c.in_ok-right.ensures.reads.3,
-  Parts.choosing-more c.args.levels c.both.new.r c.loop-r.r c.advance.new.r c.both-in-loop-r.new.r c.both.new.t c.loop-r.t c.both-in-loop-r.new.t c.emit-left.new.t
+  Parts.choosing_more c.args.levels c.both.new.r c.loop-r.r c.advance.new.r c.both-in-loop-r.new.r c.both.new.t c.loop-r.t c.both-in-loop-r.new.t c.emit-left.new.t
       c.in_ok-left.left c.loop-r.left c.in_ok-right.right c.emit-left.result
       c.loop-r.invariant.3 c.loop-r.invariant.0 (c.has.ensures.0 c.loop-r-test.true) c.in_ok-advance.ensures.step c.advance.ensures.on c.in_ok-right.ensures.reads
       c.emit-left.ensures.rows c.emit-left.ensures.last,
