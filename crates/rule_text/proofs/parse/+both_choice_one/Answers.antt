@@ -68,167 +68,167 @@ choice-returns t c =
       reads = Parts.choice_done c.args.levels c.args.r.now c.both.new.r c.loop-r.r c.args.t.now c.both.new.t c.loop-r.t c.in_ok-left.left c.loop-r.left c.in_ok-left.ensures.reads c.both.ensures.on c.loop-r.invariant.3 c.loop-r.invariant.1 c.loop-r.invariant.2 (not_from_Decides c.has.result c.has.ensures c.loop-r-test.false);
     }
 
-pub one-returns-in_err-enter : goal.one-returns-in_err-enter
-one-returns-in_err-enter t c =
+pub one-returns-in_err-enter-in-Yes : goal.one-returns-in_err-enter-in-Yes
+one-returns-in_err-enter-in-Yes t c =
     record {
       on = c.enter.ensures.on;
-      reads = Parts.broken (OneRead c.args.levels c.args.r.now c.enter.new.r c.args.t.now c.args.t.now) c.from_residual.result c.in_err-enter.field-0.0 c.from_residual.ensures.1
-          (Parts.one_not_entered c.args.levels c.args.r.now c.enter.new.r c.enter.new.r c.args.t.now c.args.t.now Yes c.in_err-enter.field-0.0 (c.in-Some.is ∙ ap Some c.in-Yes.is) refl c.in_err-enter.ensures.enters (λ xs o l K. (_, refl)));
+      reads = Parts.broken (OneRead c.args.levels c.args.r.now c.enter.new.r c.args.t.now c.args.t.now) c.from_residual.result c.in_err-enter-in-Yes.field-0.0 c.from_residual.ensures.1
+          (Parts.one_not_entered c.args.levels c.args.r.now c.enter.new.r c.enter.new.r c.args.t.now c.args.t.now Yes c.in_err-enter-in-Yes.field-0.0 (c.in-Some.is ∙ ap Some c.in-Yes.is) refl c.in_err-enter-in-Yes.ensures.enters (λ xs o l K. (_, refl)));
     }
 
-pub one-returns-in_err-enter-2 : goal.one-returns-in_err-enter-2
-one-returns-in_err-enter-2 t c =
+pub one-returns-in_err-enter-in-Mark : goal.one-returns-in_err-enter-in-Mark
+one-returns-in_err-enter-in-Mark t c =
     record {
       on = c.enter-in-Mark.ensures.on;
-      reads = Parts.broken (OneRead c.args.levels c.args.r.now c.enter-in-Mark.new.r c.args.t.now c.args.t.now) c.from_residual-in_err-enter-2.result c.in_err-enter-2.field-0.0 c.from_residual-in_err-enter-2.ensures.1
-          (Parts.one_not_entered c.args.levels c.args.r.now c.enter-in-Mark.new.r c.enter-in-Mark.new.r c.args.t.now c.args.t.now (Mark c.in-Mark.k) c.in_err-enter-2.field-0.0 (c.in-Some.is ∙ ap Some c.in-Mark.is) refl c.in_err-enter-2.ensures.enters (λ xs o l K. (_, refl)));
+      reads = Parts.broken (OneRead c.args.levels c.args.r.now c.enter-in-Mark.new.r c.args.t.now c.args.t.now) c.from_residual-in_err-enter-in-Mark.result c.in_err-enter-in-Mark.field-0.0 c.from_residual-in_err-enter-in-Mark.ensures.1
+          (Parts.one_not_entered c.args.levels c.args.r.now c.enter-in-Mark.new.r c.enter-in-Mark.new.r c.args.t.now c.args.t.now (Mark c.in-Mark.k) c.in_err-enter-in-Mark.field-0.0 (c.in-Some.is ∙ ap Some c.in-Mark.is) refl c.in_err-enter-in-Mark.ensures.enters (λ xs o l K. (_, refl)));
     }
 
-pub one-returns-in_err-enter-3 : goal.one-returns-in_err-enter-3
-one-returns-in_err-enter-3 t c =
+pub one-returns-in_err-enter-in-Condition : goal.one-returns-in_err-enter-in-Condition
+one-returns-in_err-enter-in-Condition t c =
     record {
       on = c.enter-in-Condition.ensures.on;
-      reads = Parts.broken (OneRead c.args.levels c.args.r.now c.enter-in-Condition.new.r c.args.t.now c.args.t.now) c.from_residual-in_err-enter-3.result c.in_err-enter-3.field-0.0 c.from_residual-in_err-enter-3.ensures.1
-          (Parts.one_not_entered c.args.levels c.args.r.now c.enter-in-Condition.new.r c.enter-in-Condition.new.r c.args.t.now c.args.t.now (Condition c.in-Condition.k) c.in_err-enter-3.field-0.0 (c.in-Some.is ∙ ap Some c.in-Condition.is) refl c.in_err-enter-3.ensures.enters (λ xs o l K. (_, refl)));
+      reads = Parts.broken (OneRead c.args.levels c.args.r.now c.enter-in-Condition.new.r c.args.t.now c.args.t.now) c.from_residual-in_err-enter-in-Condition.result c.in_err-enter-in-Condition.field-0.0 c.from_residual-in_err-enter-in-Condition.ensures.1
+          (Parts.one_not_entered c.args.levels c.args.r.now c.enter-in-Condition.new.r c.enter-in-Condition.new.r c.args.t.now c.args.t.now (Condition c.in-Condition.k) c.in_err-enter-in-Condition.field-0.0 (c.in-Some.is ∙ ap Some c.in-Condition.is) refl c.in_err-enter-in-Condition.ensures.enters (λ xs o l K. (_, refl)));
     }
 
-pub one-returns-in_err-enter-4 : goal.one-returns-in_err-enter-4
-one-returns-in_err-enter-4 t c =
+pub one-returns-in_err-enter-in-Before : goal.one-returns-in_err-enter-in-Before
+one-returns-in_err-enter-in-Before t c =
     record {
       on = c.enter-in-Before.ensures.on;
-      reads = Parts.broken (OneRead c.args.levels c.args.r.now c.enter-in-Before.new.r c.args.t.now c.args.t.now) c.from_residual-in_err-enter-4.result c.in_err-enter-4.field-0.0 c.from_residual-in_err-enter-4.ensures.1
-          (Parts.one_not_entered c.args.levels c.args.r.now c.enter-in-Before.new.r c.enter-in-Before.new.r c.args.t.now c.args.t.now (Before c.in-Before.prefix) c.in_err-enter-4.field-0.0 (c.in-Some.is ∙ ap Some c.in-Before.is) refl c.in_err-enter-4.ensures.enters (λ xs o l K. (_, refl)));
+      reads = Parts.broken (OneRead c.args.levels c.args.r.now c.enter-in-Before.new.r c.args.t.now c.args.t.now) c.from_residual-in_err-enter-in-Before.result c.in_err-enter-in-Before.field-0.0 c.from_residual-in_err-enter-in-Before.ensures.1
+          (Parts.one_not_entered c.args.levels c.args.r.now c.enter-in-Before.new.r c.enter-in-Before.new.r c.args.t.now c.args.t.now (Before c.in-Before.prefix) c.in_err-enter-in-Before.field-0.0 (c.in-Some.is ∙ ap Some c.in-Before.is) refl c.in_err-enter-in-Before.ensures.enters (λ xs o l K. (_, refl)));
     }
 
-pub one-returns-in_err-enter-5 : goal.one-returns-in_err-enter-5
-one-returns-in_err-enter-5 t c =
+pub one-returns-in_err-enter-in-Open : goal.one-returns-in_err-enter-in-Open
+one-returns-in_err-enter-in-Open t c =
     record {
       on = c.enter-in-Open.ensures.on;
-      reads = Parts.broken (OneRead c.args.levels c.args.r.now c.enter-in-Open.new.r c.args.t.now c.args.t.now) c.from_residual-in_err-enter-5.result c.in_err-enter-5.field-0.0 c.from_residual-in_err-enter-5.ensures.1
-          (Parts.one_not_entered c.args.levels c.args.r.now c.enter-in-Open.new.r c.enter-in-Open.new.r c.args.t.now c.args.t.now Open c.in_err-enter-5.field-0.0 (c.in-Some.is ∙ ap Some c.in-Open.is) refl c.in_err-enter-5.ensures.enters (λ xs o l K. (_, refl)));
+      reads = Parts.broken (OneRead c.args.levels c.args.r.now c.enter-in-Open.new.r c.args.t.now c.args.t.now) c.from_residual-in_err-enter-in-Open.result c.in_err-enter-in-Open.field-0.0 c.from_residual-in_err-enter-in-Open.ensures.1
+          (Parts.one_not_entered c.args.levels c.args.r.now c.enter-in-Open.new.r c.enter-in-Open.new.r c.args.t.now c.args.t.now Open c.in_err-enter-in-Open.field-0.0 (c.in-Some.is ∙ ap Some c.in-Open.is) refl c.in_err-enter-in-Open.ensures.enters (λ xs o l K. (_, refl)));
     }
 
-pub one-returns-in_err-enter-6 : goal.one-returns-in_err-enter-6
-one-returns-in_err-enter-6 t c =
+pub one-returns-in_err-enter-in-Routes : goal.one-returns-in_err-enter-in-Routes
+one-returns-in_err-enter-in-Routes t c =
     record {
       on = c.enter-in-Routes.ensures.on;
-      reads = Parts.broken (OneRead c.args.levels c.args.r.now c.enter-in-Routes.new.r c.args.t.now c.args.t.now) c.from_residual-in_err-enter-6.result c.in_err-enter-6.field-0.0 c.from_residual-in_err-enter-6.ensures.1
-          (Parts.one_not_entered c.args.levels c.args.r.now c.enter-in-Routes.new.r c.enter-in-Routes.new.r c.args.t.now c.args.t.now (Routes c.in-Routes.quantifier) c.in_err-enter-6.field-0.0 (c.in-Some.is ∙ ap Some c.in-Routes.is) refl c.in_err-enter-6.ensures.enters (λ xs o l K. (_, refl)));
+      reads = Parts.broken (OneRead c.args.levels c.args.r.now c.enter-in-Routes.new.r c.args.t.now c.args.t.now) c.from_residual-in_err-enter-in-Routes.result c.in_err-enter-in-Routes.field-0.0 c.from_residual-in_err-enter-in-Routes.ensures.1
+          (Parts.one_not_entered c.args.levels c.args.r.now c.enter-in-Routes.new.r c.enter-in-Routes.new.r c.args.t.now c.args.t.now (Routes c.in-Routes.quantifier) c.in_err-enter-in-Routes.field-0.0 (c.in-Some.is ∙ ap Some c.in-Routes.is) refl c.in_err-enter-in-Routes.ensures.enters (λ xs o l K. (_, refl)));
     }
 
-pub one-returns-in_ok-enter : goal.one-returns-in_ok-enter
-one-returns-in_ok-enter t c =
+pub one-returns-in_ok-enter-in-Yes : goal.one-returns-in_ok-enter-in-Yes
+one-returns-in_ok-enter-in-Yes t c =
     record {
       on = c.enter.ensures.on;
-      reads = Parts.one_word c.args.levels c.args.r.now c.enter.new.r c.args.t.now c.emit.new.t c.emit.result Yes truth (c.in-Some.is ∙ ap Some c.in-Yes.is) c.in_ok-enter.ensures.enters
+      reads = Parts.one_word c.args.levels c.args.r.now c.enter.new.r c.args.t.now c.emit.new.t c.emit.result Yes truth (c.in-Some.is ∙ ap Some c.in-Yes.is) c.in_ok-enter-in-Yes.ensures.enters
           (added_yes c.args.t.now c.emit.new.t c.emit.result c.emit.ensures.rows c.emit.ensures.last) (λ xs o l K. refl);
     }
 
-pub one-returns-in_ok-enter-2 : goal.one-returns-in_ok-enter-2
-one-returns-in_ok-enter-2 t c =
+pub one-returns-in_ok-enter-in-Mark : goal.one-returns-in_ok-enter-in-Mark
+one-returns-in_ok-enter-in-Mark t c =
     record {
       on = c.enter-in-Mark.ensures.on;
-      reads = Parts.one_word c.args.levels c.args.r.now c.enter-in-Mark.new.r c.args.t.now c.emit-in-Mark.new.t c.emit-in-Mark.result (Mark c.in-Mark.k) (mark c.in-Mark.k) (c.in-Some.is ∙ ap Some c.in-Mark.is) c.in_ok-enter-2.ensures.enters
+      reads = Parts.one_word c.args.levels c.args.r.now c.enter-in-Mark.new.r c.args.t.now c.emit-in-Mark.new.t c.emit-in-Mark.result (Mark c.in-Mark.k) (mark c.in-Mark.k) (c.in-Some.is ∙ ap Some c.in-Mark.is) c.in_ok-enter-in-Mark.ensures.enters
           (added_mark c.args.t.now c.emit-in-Mark.new.t c.in-Mark.k c.emit-in-Mark.result c.emit-in-Mark.ensures.rows c.emit-in-Mark.ensures.last) (λ xs o l K. refl);
     }
 
-pub one-returns-in_ok-enter-3 : goal.one-returns-in_ok-enter-3
-one-returns-in_ok-enter-3 t c =
+pub one-returns-in_ok-enter-in-Condition : goal.one-returns-in_ok-enter-in-Condition
+one-returns-in_ok-enter-in-Condition t c =
     record {
       on = c.enter-in-Condition.ensures.on;
-      reads = Parts.one_word c.args.levels c.args.r.now c.enter-in-Condition.new.r c.args.t.now c.emit-in-Condition.new.t c.emit-in-Condition.result (Condition c.in-Condition.k) (condition c.in-Condition.k) (c.in-Some.is ∙ ap Some c.in-Condition.is) c.in_ok-enter-3.ensures.enters
+      reads = Parts.one_word c.args.levels c.args.r.now c.enter-in-Condition.new.r c.args.t.now c.emit-in-Condition.new.t c.emit-in-Condition.result (Condition c.in-Condition.k) (condition c.in-Condition.k) (c.in-Some.is ∙ ap Some c.in-Condition.is) c.in_ok-enter-in-Condition.ensures.enters
           (added_condition c.args.t.now c.emit-in-Condition.new.t c.in-Condition.k c.emit-in-Condition.result c.emit-in-Condition.ensures.rows c.emit-in-Condition.ensures.last) (λ xs o l K. refl);
     }
 
-pub one-returns-in_ok-part : goal.one-returns-in_ok-part
-one-returns-in_ok-part t c =
+pub one-returns-in_ok-part-in-Before : goal.one-returns-in_ok-part-in-Before
+one-returns-in_ok-part-in-Before t c =
     record {
       on = onward c.args.r.now c.enter-in-Before.new.r c.one.new.r c.enter-in-Before.ensures.on c.one.ensures.on;
-      reads = Parts.one-prefix c.in-Before.prefix c.args.levels c.args.r.now c.enter-in-Before.new.r c.one.new.r c.args.t.now c.open_prefix.new.t c.one.new.t c.close_prefix.new.t c.in_ok-part.part c.close_prefix.result
-          (c.in-Some.is ∙ ap Some c.in-Before.is) c.in_ok-enter-4.ensures.enters c.enter-in-Before.ensures.on c.in_ok-part.ensures.reads
-          (λ p ad. added_prefix c.in-Before.prefix c.args.t.now c.open_prefix.new.t c.one.new.t c.close_prefix.new.t p c.args.t.now.len c.in_ok-part.part c.close_prefix.result
+      reads = Parts.one_prefix c.in-Before.prefix c.args.levels c.args.r.now c.enter-in-Before.new.r c.one.new.r c.args.t.now c.open_prefix.new.t c.one.new.t c.close_prefix.new.t c.in_ok-part-in-Before.part c.close_prefix.result
+          (c.in-Some.is ∙ ap Some c.in-Before.is) c.in_ok-enter-in-Before.ensures.enters c.enter-in-Before.ensures.on c.in_ok-part-in-Before.ensures.reads
+          (λ p ad. added_prefix c.in-Before.prefix c.args.t.now c.open_prefix.new.t c.one.new.t c.close_prefix.new.t p c.args.t.now.len c.in_ok-part-in-Before.part c.close_prefix.result
           c.open_prefix.ensures ad refl c.close_prefix.ensures.rows c.close_prefix.ensures.last);
     }
 
-pub one-returns-in_err-part : goal.one-returns-in_err-part
-one-returns-in_err-part t c =
+pub one-returns-in_err-part-in-Before : goal.one-returns-in_err-part-in-Before
+one-returns-in_err-part-in-Before t c =
     record {
       on = onward c.args.r.now c.enter-in-Before.new.r c.one.new.r c.enter-in-Before.ensures.on c.one.ensures.on;
-      reads = Parts.broken (OneRead c.args.levels c.args.r.now c.one.new.r c.args.t.now c.one.new.t) c.from_residual-in_err-part.result c.in_err-part.field-0.0 c.from_residual-in_err-part.ensures.1
-          (Parts.one_prefix_not c.in-Before.prefix c.args.levels c.args.r.now c.enter-in-Before.new.r c.one.new.r c.one.new.r c.args.t.now c.open_prefix.new.t c.one.new.t c.one.new.t c.in_err-part.field-0.0 (c.in-Some.is ∙ ap Some c.in-Before.is) c.in_ok-enter-4.ensures.enters c.enter-in-Before.ensures.on c.in_err-part.ensures.reads);
+      reads = Parts.broken (OneRead c.args.levels c.args.r.now c.one.new.r c.args.t.now c.one.new.t) c.from_residual-in_err-part-in-Before.result c.in_err-part-in-Before.field-0.0 c.from_residual-in_err-part-in-Before.ensures.1
+          (Parts.one_prefix_not c.in-Before.prefix c.args.levels c.args.r.now c.enter-in-Before.new.r c.one.new.r c.one.new.r c.args.t.now c.open_prefix.new.t c.one.new.t c.one.new.t c.in_err-part-in-Before.field-0.0 (c.in-Some.is ∙ ap Some c.in-Before.is) c.in_ok-enter-in-Before.ensures.enters c.enter-in-Before.ensures.on c.in_err-part-in-Before.ensures.reads);
     }
 
-pub one-returns-in_err-whole : goal.one-returns-in_err-whole
-one-returns-in_err-whole t c =
+pub one-returns-in_err-whole-in-Open : goal.one-returns-in_err-whole-in-Open
+one-returns-in_err-whole-in-Open t c =
     record {
       on = (onward c.args.r.now c.enter-in-Open.new.r c.choice.new.r c.enter-in-Open.ensures.on c.choice.ensures.on);
-      reads = Parts.broken (OneRead c.args.levels c.args.r.now c.choice.new.r c.args.t.now c.choice.new.t) c.from_residual-in_err-whole.result c.in_err-whole.field-0.0 c.from_residual-in_err-whole.ensures.1
-          (Parts.one_bracket_not c.args.levels c.args.r.now c.enter-in-Open.new.r (c.in-Some.is ∙ ap Some c.in-Open.is) c.in_ok-enter-5.ensures.enters c.enter-in-Open.ensures.on c.choice.new.r c.choice.new.r c.args.t.now c.choice.new.t c.args.t.now c.choice.new.t c.in_err-whole.field-0.0 c.in_err-whole.ensures.reads);
+      reads = Parts.broken (OneRead c.args.levels c.args.r.now c.choice.new.r c.args.t.now c.choice.new.t) c.from_residual-in_err-whole-in-Open.result c.in_err-whole-in-Open.field-0.0 c.from_residual-in_err-whole-in-Open.ensures.1
+          (Parts.one_bracket_not c.args.levels c.args.r.now c.enter-in-Open.new.r (c.in-Some.is ∙ ap Some c.in-Open.is) c.in_ok-enter-in-Open.ensures.enters c.enter-in-Open.ensures.on c.choice.new.r c.choice.new.r c.args.t.now c.choice.new.t c.args.t.now c.choice.new.t c.in_err-whole-in-Open.field-0.0 c.in_err-whole-in-Open.ensures.reads);
     }
 
-pub one-returns-in_err-take : goal.one-returns-in_err-take
-one-returns-in_err-take t c =
+pub one-returns-in_err-take-in-Open : goal.one-returns-in_err-take-in-Open
+one-returns-in_err-take-in-Open t c =
     record {
       on = (onward c.args.r.now c.choice.new.r c.take.new.r (onward c.args.r.now c.enter-in-Open.new.r c.choice.new.r c.enter-in-Open.ensures.on c.choice.ensures.on) c.take.ensures.on);
-      reads = Parts.broken (OneRead c.args.levels c.args.r.now c.take.new.r c.args.t.now c.choice.new.t) c.from_residual-in_err-take.result c.in_err-take.field-0.0 c.from_residual-in_err-take.ensures.1
-          (Parts.one_bracket_open c.args.levels c.args.r.now c.enter-in-Open.new.r (c.in-Some.is ∙ ap Some c.in-Open.is) c.in_ok-enter-5.ensures.enters c.enter-in-Open.ensures.on c.choice.new.r c.take.new.r c.args.t.now c.choice.new.t c.args.t.now c.choice.new.t c.in_ok-whole.whole c.in_err-take.field-0.0 c.in_ok-whole.ensures.reads c.choice.ensures.on c.in_err-take.ensures.takes);
+      reads = Parts.broken (OneRead c.args.levels c.args.r.now c.take.new.r c.args.t.now c.choice.new.t) c.from_residual-in_err-take-in-Open.result c.in_err-take-in-Open.field-0.0 c.from_residual-in_err-take-in-Open.ensures.1
+          (Parts.one_bracket_open c.args.levels c.args.r.now c.enter-in-Open.new.r (c.in-Some.is ∙ ap Some c.in-Open.is) c.in_ok-enter-in-Open.ensures.enters c.enter-in-Open.ensures.on c.choice.new.r c.take.new.r c.args.t.now c.choice.new.t c.args.t.now c.choice.new.t c.in_ok-whole-in-Open.whole c.in_err-take-in-Open.field-0.0 c.in_ok-whole-in-Open.ensures.reads c.choice.ensures.on c.in_err-take-in-Open.ensures.takes);
     }
 
-pub one-returns-in_ok-take : goal.one-returns-in_ok-take
-one-returns-in_ok-take t c =
+pub one-returns-in_ok-take-in-Open : goal.one-returns-in_ok-take-in-Open
+one-returns-in_ok-take-in-Open t c =
     record {
       on = (onward c.args.r.now c.choice.new.r c.take.new.r (onward c.args.r.now c.enter-in-Open.new.r c.choice.new.r c.enter-in-Open.ensures.on c.choice.ensures.on) c.take.ensures.on);
-      reads = Parts.one_bracket c.args.levels c.args.r.now c.enter-in-Open.new.r (c.in-Some.is ∙ ap Some c.in-Open.is) c.in_ok-enter-5.ensures.enters c.enter-in-Open.ensures.on c.choice.new.r c.take.new.r c.args.t.now c.choice.new.t c.in_ok-whole.whole c.in_ok-whole.ensures.reads c.choice.ensures.on c.in_ok-take.ensures.takes;
+      reads = Parts.one_bracket c.args.levels c.args.r.now c.enter-in-Open.new.r (c.in-Some.is ∙ ap Some c.in-Open.is) c.in_ok-enter-in-Open.ensures.enters c.enter-in-Open.ensures.on c.choice.new.r c.take.new.r c.args.t.now c.choice.new.t c.in_ok-whole-in-Open.whole c.in_ok-whole-in-Open.ensures.reads c.choice.ensures.on c.in_ok-take-in-Open.ensures.takes;
     }
 
-pub one-returns-in_err-take-2 : goal.one-returns-in_err-take-2
-one-returns-in_err-take-2 t c =
+pub one-returns-in_err-take-in-Routes : goal.one-returns-in_err-take-in-Routes
+one-returns-in_err-take-in-Routes t c =
     record {
       on = (onward c.args.r.now c.enter-in-Routes.new.r c.take-in-Routes.new.r c.enter-in-Routes.ensures.on c.take-in-Routes.ensures.on);
-      reads = Parts.broken (OneRead c.args.levels c.args.r.now c.take-in-Routes.new.r c.args.t.now c.args.t.now) c.from_residual-in_err-take-2.result c.in_err-take-2.field-0.0 c.from_residual-in_err-take-2.ensures.1
-          (Parts.one_until_square c.in-Routes.quantifier c.args.levels c.args.r.now c.enter-in-Routes.new.r (c.in-Some.is ∙ ap Some c.in-Routes.is) c.in_ok-enter-6.ensures.enters c.enter-in-Routes.ensures.on c.take-in-Routes.new.r c.args.t.now c.args.t.now c.in_err-take-2.field-0.0 c.in_err-take-2.ensures.takes);
+      reads = Parts.broken (OneRead c.args.levels c.args.r.now c.take-in-Routes.new.r c.args.t.now c.args.t.now) c.from_residual-in_err-take-in-Routes.result c.in_err-take-in-Routes.field-0.0 c.from_residual-in_err-take-in-Routes.ensures.1
+          (Parts.one_until_square c.in-Routes.quantifier c.args.levels c.args.r.now c.enter-in-Routes.new.r (c.in-Some.is ∙ ap Some c.in-Routes.is) c.in_ok-enter-in-Routes.ensures.enters c.enter-in-Routes.ensures.on c.take-in-Routes.new.r c.args.t.now c.args.t.now c.in_err-take-in-Routes.field-0.0 c.in_err-take-in-Routes.ensures.takes);
     }
 
-pub one-returns-in_err-p : goal.one-returns-in_err-p
-one-returns-in_err-p t c =
+pub one-returns-in_err-p-in-Routes : goal.one-returns-in_err-p-in-Routes
+one-returns-in_err-p-in-Routes t c =
     record {
       on = (onward c.args.r.now c.take-in-Routes.new.r c.choice-in-Routes.new.r (onward c.args.r.now c.enter-in-Routes.new.r c.take-in-Routes.new.r c.enter-in-Routes.ensures.on c.take-in-Routes.ensures.on) c.choice-in-Routes.ensures.on);
-      reads = Parts.broken (OneRead c.args.levels c.args.r.now c.choice-in-Routes.new.r c.args.t.now c.choice-in-Routes.new.t) c.from_residual-in_err-p.result c.in_err-p.field-0.0 c.from_residual-in_err-p.ensures.1
-          (Parts.one_until_first_not c.in-Routes.quantifier c.args.levels c.args.r.now c.enter-in-Routes.new.r (c.in-Some.is ∙ ap Some c.in-Routes.is) c.in_ok-enter-6.ensures.enters c.enter-in-Routes.ensures.on c.take-in-Routes.new.r c.in_ok-take-2.ensures.takes c.take-in-Routes.ensures.on c.choice-in-Routes.new.r c.choice-in-Routes.new.r c.args.t.now c.choice-in-Routes.new.t c.args.t.now c.choice-in-Routes.new.t c.in_err-p.field-0.0 c.in_err-p.ensures.reads);
+      reads = Parts.broken (OneRead c.args.levels c.args.r.now c.choice-in-Routes.new.r c.args.t.now c.choice-in-Routes.new.t) c.from_residual-in_err-p-in-Routes.result c.in_err-p-in-Routes.field-0.0 c.from_residual-in_err-p-in-Routes.ensures.1
+          (Parts.one_until_first_not c.in-Routes.quantifier c.args.levels c.args.r.now c.enter-in-Routes.new.r (c.in-Some.is ∙ ap Some c.in-Routes.is) c.in_ok-enter-in-Routes.ensures.enters c.enter-in-Routes.ensures.on c.take-in-Routes.new.r c.in_ok-take-in-Routes.ensures.takes c.take-in-Routes.ensures.on c.choice-in-Routes.new.r c.choice-in-Routes.new.r c.args.t.now c.choice-in-Routes.new.t c.args.t.now c.choice-in-Routes.new.t c.in_err-p-in-Routes.field-0.0 c.in_err-p-in-Routes.ensures.reads);
     }
 
-pub one-returns-in_err-take-3 : goal.one-returns-in_err-take-3
-one-returns-in_err-take-3 t c =
+pub one-returns-in_err-take-in-Routes-2 : goal.one-returns-in_err-take-in-Routes-2
+one-returns-in_err-take-in-Routes-2 t c =
     record {
       on = (onward c.args.r.now c.choice-in-Routes.new.r c.take-in-Routes-2.new.r (onward c.args.r.now c.take-in-Routes.new.r c.choice-in-Routes.new.r (onward c.args.r.now c.enter-in-Routes.new.r c.take-in-Routes.new.r c.enter-in-Routes.ensures.on c.take-in-Routes.ensures.on) c.choice-in-Routes.ensures.on) c.take-in-Routes-2.ensures.on);
-      reads = Parts.broken (OneRead c.args.levels c.args.r.now c.take-in-Routes-2.new.r c.args.t.now c.choice-in-Routes.new.t) c.from_residual-in_err-take-3.result c.in_err-take-3.field-0.0 c.from_residual-in_err-take-3.ensures.1
-          (Parts.one_until_missing c.in-Routes.quantifier c.args.levels c.args.r.now c.enter-in-Routes.new.r (c.in-Some.is ∙ ap Some c.in-Routes.is) c.in_ok-enter-6.ensures.enters c.enter-in-Routes.ensures.on c.take-in-Routes.new.r c.in_ok-take-2.ensures.takes c.take-in-Routes.ensures.on c.choice-in-Routes.new.r c.args.t.now c.choice-in-Routes.new.t c.in_ok-p.p c.in_ok-p.ensures.reads c.choice-in-Routes.ensures.on c.take-in-Routes-2.new.r c.args.t.now c.choice-in-Routes.new.t c.in_err-take-3.field-0.0 c.in_err-take-3.ensures.takes);
+      reads = Parts.broken (OneRead c.args.levels c.args.r.now c.take-in-Routes-2.new.r c.args.t.now c.choice-in-Routes.new.t) c.from_residual-in_err-take-in-Routes-2.result c.in_err-take-in-Routes-2.field-0.0 c.from_residual-in_err-take-in-Routes-2.ensures.1
+          (Parts.one_until_missing c.in-Routes.quantifier c.args.levels c.args.r.now c.enter-in-Routes.new.r (c.in-Some.is ∙ ap Some c.in-Routes.is) c.in_ok-enter-in-Routes.ensures.enters c.enter-in-Routes.ensures.on c.take-in-Routes.new.r c.in_ok-take-in-Routes.ensures.takes c.take-in-Routes.ensures.on c.choice-in-Routes.new.r c.args.t.now c.choice-in-Routes.new.t c.in_ok-p-in-Routes.p c.in_ok-p-in-Routes.ensures.reads c.choice-in-Routes.ensures.on c.take-in-Routes-2.new.r c.args.t.now c.choice-in-Routes.new.t c.in_err-take-in-Routes-2.field-0.0 c.in_err-take-in-Routes-2.ensures.takes);
     }
 
-pub one-returns-in_err-q : goal.one-returns-in_err-q
-one-returns-in_err-q t c =
+pub one-returns-in_err-q-in-Routes : goal.one-returns-in_err-q-in-Routes
+one-returns-in_err-q-in-Routes t c =
     record {
       on = (onward c.args.r.now c.take-in-Routes-2.new.r c.choice-in-Routes-2.new.r (onward c.args.r.now c.choice-in-Routes.new.r c.take-in-Routes-2.new.r (onward c.args.r.now c.take-in-Routes.new.r c.choice-in-Routes.new.r (onward c.args.r.now c.enter-in-Routes.new.r c.take-in-Routes.new.r c.enter-in-Routes.ensures.on c.take-in-Routes.ensures.on) c.choice-in-Routes.ensures.on) c.take-in-Routes-2.ensures.on) c.choice-in-Routes-2.ensures.on);
-      reads = Parts.broken (OneRead c.args.levels c.args.r.now c.choice-in-Routes-2.new.r c.args.t.now c.choice-in-Routes-2.new.t) c.from_residual-in_err-q.result c.in_err-q.field-0.0 c.from_residual-in_err-q.ensures.1
-          (Parts.one_until_second_not c.in-Routes.quantifier c.args.levels c.args.r.now c.enter-in-Routes.new.r (c.in-Some.is ∙ ap Some c.in-Routes.is) c.in_ok-enter-6.ensures.enters c.enter-in-Routes.ensures.on c.take-in-Routes.new.r c.in_ok-take-2.ensures.takes c.take-in-Routes.ensures.on c.choice-in-Routes.new.r c.args.t.now c.choice-in-Routes.new.t c.in_ok-p.p c.in_ok-p.ensures.reads c.choice-in-Routes.ensures.on c.take-in-Routes-2.new.r c.in_ok-take-3.ensures.takes c.take-in-Routes-2.ensures.on c.choice-in-Routes-2.new.r c.choice-in-Routes-2.new.r c.choice-in-Routes.new.t c.choice-in-Routes-2.new.t c.args.t.now c.choice-in-Routes-2.new.t c.in_err-q.field-0.0 c.in_err-q.ensures.reads);
+      reads = Parts.broken (OneRead c.args.levels c.args.r.now c.choice-in-Routes-2.new.r c.args.t.now c.choice-in-Routes-2.new.t) c.from_residual-in_err-q-in-Routes.result c.in_err-q-in-Routes.field-0.0 c.from_residual-in_err-q-in-Routes.ensures.1
+          (Parts.one_until_second_not c.in-Routes.quantifier c.args.levels c.args.r.now c.enter-in-Routes.new.r (c.in-Some.is ∙ ap Some c.in-Routes.is) c.in_ok-enter-in-Routes.ensures.enters c.enter-in-Routes.ensures.on c.take-in-Routes.new.r c.in_ok-take-in-Routes.ensures.takes c.take-in-Routes.ensures.on c.choice-in-Routes.new.r c.args.t.now c.choice-in-Routes.new.t c.in_ok-p-in-Routes.p c.in_ok-p-in-Routes.ensures.reads c.choice-in-Routes.ensures.on c.take-in-Routes-2.new.r c.in_ok-take-in-Routes-2.ensures.takes c.take-in-Routes-2.ensures.on c.choice-in-Routes-2.new.r c.choice-in-Routes-2.new.r c.choice-in-Routes.new.t c.choice-in-Routes-2.new.t c.args.t.now c.choice-in-Routes-2.new.t c.in_err-q-in-Routes.field-0.0 c.in_err-q-in-Routes.ensures.reads);
     }
 
-pub one-returns-in_err-take-4 : goal.one-returns-in_err-take-4
-one-returns-in_err-take-4 t c =
+pub one-returns-in_err-take-in-Routes-3 : goal.one-returns-in_err-take-in-Routes-3
+one-returns-in_err-take-in-Routes-3 t c =
     record {
       on = (onward c.args.r.now c.choice-in-Routes-2.new.r c.take-in-Routes-3.new.r (onward c.args.r.now c.take-in-Routes-2.new.r c.choice-in-Routes-2.new.r (onward c.args.r.now c.choice-in-Routes.new.r c.take-in-Routes-2.new.r (onward c.args.r.now c.take-in-Routes.new.r c.choice-in-Routes.new.r (onward c.args.r.now c.enter-in-Routes.new.r c.take-in-Routes.new.r c.enter-in-Routes.ensures.on c.take-in-Routes.ensures.on) c.choice-in-Routes.ensures.on) c.take-in-Routes-2.ensures.on) c.choice-in-Routes-2.ensures.on) c.take-in-Routes-3.ensures.on);
-      reads = Parts.broken (OneRead c.args.levels c.args.r.now c.take-in-Routes-3.new.r c.args.t.now c.choice-in-Routes-2.new.t) c.from_residual-in_err-take-4.result c.in_err-take-4.field-0.0 c.from_residual-in_err-take-4.ensures.1
-          (Parts.one_until_open c.in-Routes.quantifier c.args.levels c.args.r.now c.enter-in-Routes.new.r (c.in-Some.is ∙ ap Some c.in-Routes.is) c.in_ok-enter-6.ensures.enters c.enter-in-Routes.ensures.on c.take-in-Routes.new.r c.in_ok-take-2.ensures.takes c.take-in-Routes.ensures.on c.choice-in-Routes.new.r c.args.t.now c.choice-in-Routes.new.t c.in_ok-p.p c.in_ok-p.ensures.reads c.choice-in-Routes.ensures.on c.take-in-Routes-2.new.r c.in_ok-take-3.ensures.takes c.take-in-Routes-2.ensures.on c.choice-in-Routes-2.new.r c.choice-in-Routes-2.new.t c.in_ok-q.q c.in_ok-q.ensures.reads c.choice-in-Routes-2.ensures.on c.take-in-Routes-3.new.r c.args.t.now c.choice-in-Routes-2.new.t c.in_err-take-4.field-0.0 c.in_err-take-4.ensures.takes);
+      reads = Parts.broken (OneRead c.args.levels c.args.r.now c.take-in-Routes-3.new.r c.args.t.now c.choice-in-Routes-2.new.t) c.from_residual-in_err-take-in-Routes-3.result c.in_err-take-in-Routes-3.field-0.0 c.from_residual-in_err-take-in-Routes-3.ensures.1
+          (Parts.one_until_open c.in-Routes.quantifier c.args.levels c.args.r.now c.enter-in-Routes.new.r (c.in-Some.is ∙ ap Some c.in-Routes.is) c.in_ok-enter-in-Routes.ensures.enters c.enter-in-Routes.ensures.on c.take-in-Routes.new.r c.in_ok-take-in-Routes.ensures.takes c.take-in-Routes.ensures.on c.choice-in-Routes.new.r c.args.t.now c.choice-in-Routes.new.t c.in_ok-p-in-Routes.p c.in_ok-p-in-Routes.ensures.reads c.choice-in-Routes.ensures.on c.take-in-Routes-2.new.r c.in_ok-take-in-Routes-2.ensures.takes c.take-in-Routes-2.ensures.on c.choice-in-Routes-2.new.r c.choice-in-Routes-2.new.t c.in_ok-q-in-Routes.q c.in_ok-q-in-Routes.ensures.reads c.choice-in-Routes-2.ensures.on c.take-in-Routes-3.new.r c.args.t.now c.choice-in-Routes-2.new.t c.in_err-take-in-Routes-3.field-0.0 c.in_err-take-in-Routes-3.ensures.takes);
     }
 
-pub one-returns-in_ok-take-4 : goal.one-returns-in_ok-take-4
-one-returns-in_ok-take-4 t c =
-    let first = c.in_ok-p.ensures.reads in
-    let second = c.in_ok-q.ensures.reads in
+pub one-returns-in_ok-take-in-Routes-3 : goal.one-returns-in_ok-take-in-Routes-3
+one-returns-in_ok-take-in-Routes-3 t c =
+    let first = c.in_ok-p-in-Routes.ensures.reads in
+    let second = c.in_ok-q-in-Routes.ensures.reads in
     record {
       on = (onward c.args.r.now c.choice-in-Routes-2.new.r c.take-in-Routes-3.new.r (onward c.args.r.now c.take-in-Routes-2.new.r c.choice-in-Routes-2.new.r (onward c.args.r.now c.choice-in-Routes.new.r c.take-in-Routes-2.new.r (onward c.args.r.now c.take-in-Routes.new.r c.choice-in-Routes.new.r (onward c.args.r.now c.enter-in-Routes.new.r c.take-in-Routes.new.r c.enter-in-Routes.ensures.on c.take-in-Routes.ensures.on) c.choice-in-Routes.ensures.on) c.take-in-Routes-2.ensures.on) c.choice-in-Routes-2.ensures.on) c.take-in-Routes-3.ensures.on);
-      reads = Parts.one_until c.in-Routes.quantifier c.args.levels c.args.r.now c.enter-in-Routes.new.r (c.in-Some.is ∙ ap Some c.in-Routes.is) c.in_ok-enter-6.ensures.enters c.enter-in-Routes.ensures.on c.take-in-Routes.new.r c.in_ok-take-2.ensures.takes c.take-in-Routes.ensures.on c.choice-in-Routes.new.r c.args.t.now c.choice-in-Routes.new.t c.in_ok-p.p c.in_ok-p.ensures.reads c.choice-in-Routes.ensures.on c.take-in-Routes-2.new.r c.in_ok-take-3.ensures.takes c.take-in-Routes-2.ensures.on c.choice-in-Routes-2.new.r c.choice-in-Routes-2.new.t c.in_ok-q.q c.in_ok-q.ensures.reads c.choice-in-Routes-2.ensures.on c.take-in-Routes-3.new.r c.close_until.new.t c.close_until.result c.in_ok-take-4.ensures.takes
-          (added_until c.in-Routes.quantifier c.args.t.now c.choice-in-Routes.new.t c.choice-in-Routes-2.new.t c.close_until.new.t _ _ c.in_ok-p.p c.in_ok-q.q c.close_until.result
+      reads = Parts.one_until c.in-Routes.quantifier c.args.levels c.args.r.now c.enter-in-Routes.new.r (c.in-Some.is ∙ ap Some c.in-Routes.is) c.in_ok-enter-in-Routes.ensures.enters c.enter-in-Routes.ensures.on c.take-in-Routes.new.r c.in_ok-take-in-Routes.ensures.takes c.take-in-Routes.ensures.on c.choice-in-Routes.new.r c.args.t.now c.choice-in-Routes.new.t c.in_ok-p-in-Routes.p c.in_ok-p-in-Routes.ensures.reads c.choice-in-Routes.ensures.on c.take-in-Routes-2.new.r c.in_ok-take-in-Routes-2.ensures.takes c.take-in-Routes-2.ensures.on c.choice-in-Routes-2.new.r c.choice-in-Routes-2.new.t c.in_ok-q-in-Routes.q c.in_ok-q-in-Routes.ensures.reads c.choice-in-Routes-2.ensures.on c.take-in-Routes-3.new.r c.close_until.new.t c.close_until.result c.in_ok-take-in-Routes-3.ensures.takes
+          (added_until c.in-Routes.quantifier c.args.t.now c.choice-in-Routes.new.t c.choice-in-Routes-2.new.t c.close_until.new.t _ _ c.in_ok-p-in-Routes.p c.in_ok-q-in-Routes.q c.close_until.result
           first.2 second.2 c.close_until.ensures.rows c.close_until.ensures.last);
     }
 
