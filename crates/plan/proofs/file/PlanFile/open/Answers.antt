@@ -44,31 +44,17 @@ invariant_of-result c =
     let file = c.args.bytes.now in
     let none = passed file _ c.shape_fault.ensures c.in_default.is in
     let s = shaped_of file none in
-    let rise = rule_bytes_rise file (rule_count file) in (
-      none,
-      (
-        omega arith,
-        (
-          omega arith,
-          (
-            omega arith,
-            (
-              omega arith,
-              (
-                omega arith,
-                (
-                  omega arith,
-                  (
-                    inside_listed (place_count file) (binding_count file) (binding_at file) (λ k below. let fit = s.ends k below in (fit.from_in, fit.to_in)),
-                    (∣ c.in_default-texts_fault.ensures ∣₁, tt),
-                  ),
-                ),
-              ),
-            ),
-          ),
-        ),
-      ),
-    )
+    let rise = rule_bytes_rise file (rule_count file) in record {
+      shaped = none;
+      places_are = omega arith;
+      bindings_are = omega arith;
+      rules_are = omega arith;
+      few_places = omega arith;
+      few_bindings = omega arith;
+      room = omega arith;
+      ends = inside_listed (place_count file) (binding_count file) (binding_at file) (λ k below. let fit = s.ends k below in (fit.from_in, fit.to_in));
+      read = ∣ c.in_default-texts_fault.ensures ∣₁;
+    }
 
 pub returns : goal.returns
 returns c =

@@ -6,7 +6,17 @@ use Rattle.plan.proofs.file.PlanFile.refused.Goals as goal
 
 pub invariant_of-result : goal.invariant_of-result
 unfolding number_of rule_byte listed shape_fault lengths_fault ends_fault
-invariant_of-result c = (refl, (refl, (refl, (refl, (omega arith, (omega arith, (omega arith, (refl, (∣ (λ i below. absurd (omega arith)) ∣₁, tt)))))))))
+invariant_of-result c = record {
+  shaped = refl;
+  places_are = refl;
+  bindings_are = refl;
+  rules_are = refl;
+  few_places = omega arith;
+  few_bindings = omega arith;
+  room = omega arith;
+  ends = refl;
+  read = ∣ (λ i below. absurd (omega arith)) ∣₁;
+}
 
 pub returns : goal.returns
 unfolding number_of rule_byte listed
