@@ -6,7 +6,7 @@ use Rattle.report.proofs.lines.add_number.Goals as goal
 pub invariant_of-report : goal.invariant_of-report
 invariant_of-report c =
     let inside : c.in-Some.next ≤ length c.put_decimal.new.out = put_inside _ _ _ _ _ (omega arith) c.in-Some.ensures in
-    (omega arith, (omega arith, tt))
+    record { few = omega arith; sized = omega arith }
 
 pub returns-in-Some : goal.returns-in-Some
 returns-in-Some c = record { adds = search rules; short = long_length c.args.n (omega arith) }
