@@ -8,16 +8,14 @@ use crate::work::Work;
 use judging::shown::{Ending, RouteStep, Shown};
 use plan::file::PlanFile;
 use plan::file::open::OpenedFile;
-use std::alloc::Global;
-use std::fmt;
-use std::fmt::Write;
+use std::alloc::{AllocError, Global};
 use tables::row::Row;
 use verdicts::verdict::Verdict;
 
 // Adds the conditions that are on under a setting.
-fn add_setting(out: &mut String, setting: u32) -> fmt::Result {
+fn add_setting(out: &mut String, setting: u32) -> Result<(), AllocError> {
     if setting == 0 {
-        return out.write_str("no condition on");
+        return out.push_str("no condition on");
     }
     let mut between = "";
     for k in 0..CONDITIONS {
@@ -26,14 +24,14 @@ fn add_setting(out: &mut String, setting: u32) -> fmt::Result {
             between = " ";
         }
     }
-    out.write_str(" on")
+    out.push_str(" on")
 }
 
 // Adds how a route ends. A single step may lead back to where it began.
-fn add_ending(out: &mut String, ending: Ending, shown_of: Breaking) -> fmt::Result {
+fn add_ending(out: &mut String, ending: Ending, shown_of: Breaking) -> Result<(), AllocError> {
     match (ending, shown_of) {
-        (Ending::Reaches, _) => out.write_str("  and reaches a position that the rule forbids.\n"),
-        (Ending::Rests, _) => out.write_str("  and rests there: no step leads on.\n"),
+        (Ending::Reaches, _) => out.push_str("  and reaches a position that the rule forbids.\n"),
+        (Ending::Rests, _) => out.push_str("  and rests there: no step leads on.\n"),
         (Ending::Returns(number), Breaking::OfStep(_)) => write!(
             out,
             "  and steps back to position {number}, a position that the rule forbids.\n"
@@ -51,13 +49,13 @@ fn add_route(
     steps: &[RouteStep],
     shown: Shown,
     shown_of: Breaking,
-) -> fmt::Result {
-    out.write_str("  This route breaks it:\n")?;
+) -> Result<(), AllocError> {
+    out.push_str("  This route breaks it:\n")?;
     for (number, step) in steps.iter().take(shown.count).enumerate() {
         let place = step.place;
         write!(out, "    {number}: place {place}, ")?;
         add_setting(out, step.setting)?;
-        out.write_str("\n")?;
+        out.push_str("\n")?;
     }
     add_ending(out, shown.ending, shown_of)
 }
@@ -69,31 +67,36 @@ fn add_break(
     rows: &[Row],
     at: RouteStep,
     work: &mut Work,
-) -> fmt::Result {
+) -> Result<(), AllocError> {
     let place = at.place;
     write!(out, "  It breaks at the entry {place} with ")?;
     add_setting(out, at.setting)?;
-    out.write_str(".\n")?;
+    out.push_str(".\n")?;
     match work.breaking_route(plan, rows, at) {
         Some(shown) => add_route(out, work.steps.as_slice(), shown, breaking_rows(rows)),
-        None => out.write_str("  No single route shows why a rule of this form breaks.\n"),
+        None => out.push_str("  No single route shows why a rule of this form breaks.\n"),
     }
 }
 
 // Adds the text of a rule, what it says, and why it breaks if it does.
-fn add_rule(out: &mut String, plan: &PlanFile, rule: usize, work: &mut Work) -> fmt::Result {
+fn add_rule(
+    out: &mut String,
+    plan: &PlanFile,
+    rule: usize,
+    work: &mut Work,
+) -> Result<(), AllocError> {
     let (Some(text), Some(table)) = (plan.text(rule), plan.table(rule)) else {
         return Ok(());
     };
     let rows = table.rows();
-    out.write_str("  Rule: ")?;
+    out.push_str("  Rule: ")?;
     add_text(out, text)?;
-    out.write_str("\n  It says: ")?;
+    out.push_str("\n  It says: ")?;
     add_words(out, rows, last_row(rows))?;
-    out.write_str(".\n")?;
+    out.push_str(".\n")?;
     match work.judge(plan, rows) {
         Ok(judgement) => match judgement.verdict {
-            Verdict::Holds => out.write_str("  It holds at every entry under every setting.\n"),
+            Verdict::Holds => out.push_str("  It holds at every entry under every setting.\n"),
             Verdict::Breaks(place, setting) => {
                 let at = RouteStep { place, setting };
                 add_break(out, plan, rows, at, work)

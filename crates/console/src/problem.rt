@@ -69,10 +69,3 @@ impl<T: Drop> From<AllocFailed<T>> for Problem {
         Problem::NoMemory
     }
 }
-
-// A text that is written to a `String` fails only for want of memory.
-impl From<fmt::Error> for Problem {
-    fn from(_error: fmt::Error) -> Problem {
-        Problem::NoMemory
-    }
-}

@@ -3,8 +3,7 @@ use crate::problem::Source;
 use crate::text::{add_text, rule_text};
 use plan::fault::{FileFault, FileFaultKind, PlanFault};
 use rule_text::fault::{Fault, FaultKind};
-use std::fmt;
-use std::fmt::Write;
+use std::alloc::AllocError;
 
 fn file_words(kind: FileFaultKind) -> &'static str {
     match kind {
@@ -32,7 +31,7 @@ fn text_words(fault: Fault, length: usize) -> &'static str {
     }
 }
 
-fn add_file_fault(out: &mut String, fault: FileFault) -> fmt::Result {
+fn add_file_fault(out: &mut String, fault: FileFault) -> Result<(), AllocError> {
     let words = file_words(fault.kind);
     let number = fault.number();
     let byte = fault.byte;
@@ -46,17 +45,22 @@ fn add_file_fault(out: &mut String, fault: FileFault) -> fmt::Result {
 }
 
 // Adds the text on a line, and on the next a caret below the byte.
-fn add_pointed(out: &mut String, text: &[u8], byte: usize) -> fmt::Result {
-    out.write_str("\n  ")?;
+fn add_pointed(out: &mut String, text: &[u8], byte: usize) -> Result<(), AllocError> {
+    out.push_str("\n  ")?;
     add_text(out, text)?;
-    out.write_str("\n  ")?;
+    out.push_str("\n  ")?;
     for _ in 0..byte {
-        out.write_str(" ")?;
+        out.push_str(" ")?;
     }
-    out.write_str("^")
+    out.push_str("^")
 }
 
-fn add_text_fault(out: &mut String, file: &[u8], rule: usize, fault: Fault) -> fmt::Result {
+fn add_text_fault(
+    out: &mut String,
+    file: &[u8],
+    rule: usize,
+    fault: Fault,
+) -> Result<(), AllocError> {
     let text = rule_text(file, rule).unwrap_or(&[]);
     let words = text_words(fault, text.len());
     let number = fault.number();
@@ -74,7 +78,7 @@ pub(crate) fn add_refusal(
     source: &Source,
     file: &[u8],
     fault: PlanFault,
-) -> fmt::Result {
+) -> Result<(), AllocError> {
     write!(out, "{source} is refused: ")?;
     match fault {
         PlanFault::InFile(fault) => add_file_fault(out, fault),

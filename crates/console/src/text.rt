@@ -1,6 +1,5 @@
 // The texts of rules, as they are printed.
-use std::fmt;
-use std::fmt::Write;
+use std::alloc::AllocError;
 
 // The number in the two bytes at `at`, the lowest byte first.
 fn field_of_2(file: &[u8], at: usize) -> Option<usize> {
@@ -31,11 +30,11 @@ pub(crate) fn rule_text(file: &[u8], rule: usize) -> Option<&[u8]> {
 }
 
 // Adds a text, with `?` for each byte that is no printable ASCII.
-pub(crate) fn add_text(out: &mut String, text: &[u8]) -> fmt::Result {
+pub(crate) fn add_text(out: &mut String, text: &[u8]) -> Result<(), AllocError> {
     for byte in text.iter() {
         match *byte {
-            b' '..=b'~' => out.write_char(char::from(*byte))?,
-            _ => out.write_char('?')?,
+            b' '..=b'~' => out.push(char::from(*byte))?,
+            _ => out.push('?')?,
         }
     }
     Ok(())

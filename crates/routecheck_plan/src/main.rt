@@ -2,7 +2,11 @@
 #![tactic(auto)]
 
 use console::run::{Failed, run};
+use std::process::ExitCode;
 
-fn main(rt: HostRuntime) -> Result<(), Failed> {
-    run(&rt)
+fn main(rt: HostRuntime) -> ExitCode {
+    match run(&rt) {
+        Ok(()) => ExitCode::SUCCESS,
+        Err(Failed) => ExitCode::FAILURE,
+    }
 }
