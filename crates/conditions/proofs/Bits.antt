@@ -1,5 +1,5 @@
 -- The bits of a number, over any width.
-use Rattle.std.proofs.Common.{◌≡◌, ℕ, zero, suc, ◌+◌, ◌/◌, ◌%◌, ◌^◌, ◌<◌, Bool, true, false, not, ◌&&◌, ◌||◌, eqb, sym, refl, ap, ◌∙◌, pow-suc, div-one, one-add, arith, shr-shr}
+use Rattle.std.proofs.Common.{◌≡◌, ℕ, zero, suc, ◌+◌, ◌/◌, ◌%◌, ◌^◌, ◌<◌, true, false, not, ◌&&◌, ◌||◌, eqb, sym, refl, ap, ◌∙◌, pow-suc, div-one, one-add, arith, shr-shr}
 use lib.Bits.{bit_and, bit_or, and_mod, or_mod, and_shr, or_shr}
 use lib.Count.{count_trailing_zeros, under}
 use Rattle.conditions.specs.Sets.{bit}

@@ -1,9 +1,8 @@
 -- Rows say the same of positions that are the same.
-use Rattle.std.proofs.Common.{◌≡◌, ℕ, zero, suc, ◌<◌, Bool, true, false, ◌⊎◌, ◌↔◌, Decides, sym, refl, ap, ◌∙◌, subst, inl, inr, ⊎_elim, arith}
-use Rattle.std.proofs.lemmas.Bool.Decides.{Decides-like}
-use Rattle.routing.specs.Net.{Pos, Net, Within, Step, Rests}
-use Rattle.routing.specs.Routes.{Route, Has, position, SomeNext, SomeUntil, SomeAlways}
-use Rattle.rounds.specs.Rounds.{Grown, Kept, Stable, LeastStable, Decided}
+use Rattle.std.proofs.Common.{◌≡◌, ℕ, zero, suc, true, ◌↔◌, refl, inl, inr, ⊎_elim, arith}
+use Rattle.routing.specs.Net.{Pos, Net, Within}
+use Rattle.routing.specs.Routes.{position, SomeNext, SomeUntil, SomeAlways}
+use Rattle.rounds.specs.Rounds.{Grown, Kept, Stable, LeastStable}
 use Rattle.rounds.proofs.Walks.{stays, has_before}
 use Rattle.tables.specs.declared.row.Operation.{Operation}
 use Rattle.tables.specs.declared.row.Operation.TheVariants.{Yes, Mark, Condition, Not, And, Or, Next, Until, Always}

@@ -1,17 +1,17 @@
 -- The rounds of E[p U q] as tests, and the notes on them.
-use Rattle.std.proofs.Common.{◌≡◌, ℕ, zero, suc, ◌<◌, ◌≤◌, Bool, true, false, cond, ◌&&◌, ◌||◌, eqb, leb, ◌⊎◌, List, [], ◌∷◌, get_or, is_some, Some, None, Decides, Option, sym, refl, ap, ◌∙◌, subst, inl, inr, ⊎_elim, arith}
+use Rattle.std.proofs.Common.{◌≡◌, ℕ, zero, suc, ◌<◌, ◌≤◌, Bool, true, false, ◌&&◌, ◌||◌, eqb, leb, ◌⊎◌, List, [], ◌∷◌, get_or, is_some, Some, None, Decides, Option, sym, refl, ap, ◌∙◌, subst, inl, inr, ⊎_elim, arith}
 use native.Mathlib.Decide.{le_ind}
 use Rattle.std.specs.List.{slice_get}
 use Rattle.std.proofs.lemmas.Bool.{cases_eq, cases_Bool, or_left, or_right, or_cases, and_from, and_parts, cond-true, cond-false, eq-eqb, ne_eqb, le-leb, lt-leb, leb-true, both_ways, eqb-true, true≢false}
-use Rattle.std.proofs.lemmas.Bool.Decides.{same_from_decides, Decides-at}
-use Rattle.routing.specs.Net.{Link, Net, Pos, Within, Step, places, settings}
+use Rattle.std.proofs.lemmas.Bool.Decides.{same_from_decides}
+use Rattle.routing.specs.Net.{Link, Net, Pos, Within, Step, places}
 use Rattle.routing.specs.Routes.{SomeNext}
 use Rattle.routing.specs.Bindings.{Fits}
 use Rattle.rounds.specs.Rounds.{Decided}
 use Rattle.rounds.specs.Truth.{into, grown}
 use Rattle.rounds.proofs.Truth.{into_decides}
 use Rattle.judging.specs.declared.shown.Ending.TheVariants.{Reaches}
-use Rattle.judging.specs.Chosen.{Chosen, least_from, pos, entering, or_next, next_in, next_by, goes_on, counted, walk_until, chosen_until}
+use Rattle.judging.specs.Chosen.{least_from, pos, entering, or_next, next_in, goes_on, counted, walk_until, chosen_until}
 use Rattle.judging.specs.Notes.{never, round_at, setting_at, first_link, noted_entry, noted_next, walk_noted, Noted}
 use Rattle.judging.proofs.Choices.{entering_like, entering_out, entering_some, next_out}
 use Rattle.judging.proofs.Nexts.{by_link, next_first}

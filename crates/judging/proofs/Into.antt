@@ -1,9 +1,9 @@
 -- The settings with a step into given sets, binding by binding.
-use Rattle.std.proofs.Common.{◌≡◌, ℕ, ◌+◌, ◌<◌, ◌≤◌, Bool, true, false, ◌⊎◌, List, length, Some, None, Decides, Option, sym, refl, ap, ◌∙◌, subst, inl, inr, ⊎_elim, arith}
+use Rattle.std.proofs.Common.{◌≡◌, ℕ, ◌+◌, ◌<◌, ◌≤◌, Bool, true, false, ◌⊎◌, List, length, Some, Decides, sym, refl, ap, ◌∙◌, subst, inl, inr, ⊎_elim, arith}
 use Rattle.std.specs.List.{slice_get}
 use Rattle.std.proofs.lemmas.Option.{slice_get_past as nth_past}
 use Rattle.std.proofs.lemmas.Bool.{cases_eq, cases_lt, false≢true}
-use Rattle.routing.specs.Net.{Link, Pos, Net, Within, Step, places, settings}
+use Rattle.routing.specs.Net.{Link, Pos, Net, Step, places, settings}
 use Rattle.routing.specs.Routes.{SomeNext}
 
 -- A number at which a list has something is below its length.

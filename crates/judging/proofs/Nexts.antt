@@ -1,5 +1,5 @@
 -- The next position, binding by binding.
-use Rattle.std.proofs.Common.{◌≡◌, ℕ, zero, suc, ◌+◌, ◌^◌, ◌<◌, ◌≤◌, Bool, true, false, cond, ◌&&◌, eqb, ◌⊎◌, List, [], ◌∷◌, length, get_or, drop, Some, None, Option, sym, refl, ap, ◌∙◌, subst, ⊎_elim, arith}
+use Rattle.std.proofs.Common.{◌≡◌, ℕ, zero, suc, ◌+◌, ◌<◌, ◌≤◌, Bool, true, false, cond, ◌&&◌, eqb, List, [], ◌∷◌, length, get_or, drop, Some, None, Option, sym, refl, ap, ◌∙◌, ⊎_elim, arith}
 use Rattle.std.specs.List.{slice_get}
 use Rattle.std.proofs.lemmas.Bool.{cond-true, cond-false, cases_Bool, and_from, and_left, and_right, eq-eqb, ne_eqb}
 use Rattle.conditions.specs.Sets.{Picked}
@@ -7,7 +7,7 @@ use Rattle.conditions.proofs.Picking.{picked_in, picked_first}
 use Rattle.routing.specs.Net.{Link, Net, Pos, settings}
 use Rattle.judging.specs.Judged.{covers}
 use Rattle.judging.proofs.Covers.{covers_read}
-use Rattle.judging.specs.Chosen.{pos, at_place, entering, or_next, next_by, next_in}
+use Rattle.judging.specs.Chosen.{pos, at_place, entering, or_next, next_by}
 use Rattle.judging.specs.Notes.{first_link}
 use Rattle.judging.proofs.Choices.{least_is, least_none}
 

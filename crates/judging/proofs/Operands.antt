@@ -1,5 +1,5 @@
 -- The operands of a row: where they stand in the main list, and what a row makes of them.
-use Rattle.std.proofs.Common.{◌≡◌, ℕ, suc, ◌+◌, ◌-◌, ◌*◌, ◌<◌, ◌≤◌, Bool, true, false, cond, List, length, take, drop, IfSome, Some, None, Option, sym, refl, ap, ◌∙◌, subst, mul-le-mul_right, suc-mul, arith, length-drop, length-take}
+use Rattle.std.proofs.Common.{◌≡◌, ℕ, suc, ◌+◌, ◌-◌, ◌*◌, ◌<◌, ◌≤◌, Bool, true, false, cond, List, length, take, drop, IfSome, Some, None, Option, sym, refl, subst, mul-le-mul_right, suc-mul, arith, length-drop, length-take}
 use borrow.Rule.Slice.PartMut.{put_mid}
 use Rattle.std.proofs.lemmas.Slice.{take-put_mid_below, drop-put_mid, between-put_mid}
 use Rattle.std.proofs.lemmas.Bool.{false≢true}

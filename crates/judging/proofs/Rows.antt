@@ -1,7 +1,7 @@
 -- One row, from the positions of its operands.
-use Rattle.std.proofs.Common.{◌≡◌, ℕ, ◌^◌, ◌<◌, Bool, true, false, not, ◌&&◌, ◌||◌, ◌⊎◌, ◌↔◌, Decides, sym, refl, ap, ◌∙◌, subst, inl, inr}
-use Rattle.std.proofs.lemmas.Bool.Decides.{Decides-at, Decides-like}
-use Rattle.routing.specs.Net.{Pos, Net, Within, settings}
+use Rattle.std.proofs.Common.{◌≡◌, ℕ, ◌^◌, ◌<◌, Bool, true, false, ◌&&◌, ◌||◌, ◌↔◌, sym, refl, ap, subst}
+use Rattle.std.proofs.lemmas.Bool.Decides.{Decides-like}
+use Rattle.routing.specs.Net.{Pos, Net, Within}
 use Rattle.rounds.specs.Rounds.{Decided}
 use Rattle.tables.specs.declared.row.Operation.{Operation}
 use Rattle.judging.specs.Shapes.{Shape, Rounds}

@@ -1,9 +1,8 @@
 -- Tests that are the same on the network choose the same route.
-use Rattle.std.proofs.Common.{◌≡◌, ℕ, zero, suc, ◌+◌, ◌<◌, Bool, true, cond, ◌&&◌, ◌||◌, List, [], ◌∷◌, ◌++◌, Some, None, Decides, Option, sym, refl, ap, ◌∙◌, subst}
+use Rattle.std.proofs.Common.{◌≡◌, ℕ, zero, suc, ◌+◌, Bool, true, cond, ◌&&◌, ◌||◌, List, [], ◌∷◌, ◌++◌, Some, None, Option, sym, refl, ap, ◌∙◌}
 use Rattle.std.proofs.lemmas.Bool.Decides.{same_from_decides}
-use Rattle.routing.specs.Net.{Net, Pos, Within, Step, places}
-use Rattle.routing.specs.Routes.{SomeNext}
-use Rattle.routing.specs.Rules.{Rule, Means, ex, eu, eg}
+use Rattle.routing.specs.Net.{Net, Pos, Within, places}
+use Rattle.routing.specs.Rules.{Rule, Means, eg}
 use Rattle.routing.specs.Bindings.{Fits}
 use Rattle.rounds.specs.Rounds.{Decided}
 use Rattle.rounds.specs.Truth.{grown, into, true_at}
@@ -15,7 +14,7 @@ use Rattle.judging.specs.declared.shown.Ending.TheVariants.{Reaches}
 use Rattle.judging.specs.Chosen.{Chosen, least_from, next_in, goes_on, counted, chosen_next, walk_until, chosen_until, index_of, returns_or, rests_or, walk_always, chosen}
 use Rattle.judging.specs.Shapes.{first_is_row, second_is_row}
 use Rattle.judging.specs.Steps.{chosen_by}
-use Rattle.judging.proofs.Choices.{next_like, next_out}
+use Rattle.judging.proofs.Choices.{next_like}
 use Rattle.judging.proofs.RuleRows.{operation_rule}
 
 -- Two tests are the same on the network.

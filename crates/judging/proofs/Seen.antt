@@ -1,11 +1,11 @@
 -- Positions that were seen, as records of a list.
-use Rattle.std.proofs.Common.{◌≡◌, ℕ, zero, suc, ◌+◌, ◌<◌, ◌≤◌, Bool, true, false, cond, List, [], ◌∷◌, ◌++◌, map, length, get_or, take, Some, None, Option, sym, refl, ap, ◌∙◌, arith}
+use Rattle.std.proofs.Common.{◌≡◌, ℕ, zero, suc, ◌<◌, true, false, List, [], ◌∷◌, ◌++◌, map, length, get_or, Some, None, refl, ap, ◌∙◌, arith}
 use Rattle.std.specs.List.{slice_get}
 use Rattle.std.proofs.lemmas.Bool.{cond-true, cond-false}
 use Rattle.routing.specs.Net.{Pos}
 use Rattle.judging.specs.declared.shown.RouteStep.{RouteStep}
 use Rattle.judging.specs.Chosen.{same_pos, one_later, index_of}
-use Rattle.judging.specs.Steps.{as_pos, as_step, as_steps}
+use Rattle.judging.specs.Steps.{as_pos, as_steps}
 
 -- The record at a number, as a position.
 pub nth_pos : (xs : List RouteStep) (i : ℕ) (d : RouteStep) → i < length xs → slice_get (map as_pos xs) i ≡ Some (as_pos (get_or xs i d))

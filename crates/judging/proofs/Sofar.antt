@@ -1,10 +1,10 @@
 -- Judging row by row.
-use Rattle.std.proofs.Common.{◌≡◌, ℕ, suc, ◌+◌, ◌-◌, ◌*◌, ◌<◌, ◌≤◌, Bool, true, ◌⊎◌, List, length, get_or, take, drop, sym, refl, ap, ◌∙◌, subst, ⊎_elim, suc-mul, add-one, arith}
+use Rattle.std.proofs.Common.{◌≡◌, ℕ, suc, ◌+◌, ◌-◌, ◌*◌, ◌<◌, ◌≤◌, Bool, true, List, length, get_or, take, drop, sym, refl, ap, ◌∙◌, subst, ⊎_elim, suc-mul, add-one, arith}
 use Rattle.std.specs.List.{between}
 use Rattle.std.proofs.lemmas.List.{take-take, drop-drop}
 use Rattle.std.proofs.lemmas.Slice.{between_is}
 use Rattle.std.proofs.lemmas.Bool.{cases_eq}
-use Rattle.routing.specs.Net.{Pos, Net, places}
+use Rattle.routing.specs.Net.{Net, places}
 use Rattle.routing.specs.Rules.{Rule, Means}
 use Rattle.rounds.specs.Claims.{Is}
 use Rattle.rounds.specs.Rounds.{Decided}
@@ -12,7 +12,7 @@ use Rattle.tables.specs.declared.row.Row.{Row}
 use Rattle.tables.specs.declared.row.Operation.{Operation}
 use Rattle.tables.specs.Tables.{coded, row_fits, no_row, rule_at}
 use Rattle.judging.specs.Judged.{covers, row_part, RoundsOf, RoundsBefore, WrittenBefore}
-use Rattle.judging.specs.Shapes.{Shape, Rounds, first_is_row, second_is_row}
+use Rattle.judging.specs.Shapes.{Shape, Rounds}
 use Rattle.judging.proofs.Alike.{Alike, shape_alike, rounds_alike}
 use Rattle.judging.proofs.Operands.{part_before}
 use Rattle.judging.proofs.Rows.{decided_like}

@@ -1,9 +1,9 @@
 -- A walk within a set, written to a list.
-use Rattle.std.proofs.Common.{◌≡◌, ℕ, zero, suc, ◌+◌, ◌-◌, ◌<◌, ◌≤◌, Bool, List, [], ◌∷◌, ◌++◌, map, length, get_or, take, drop, set, Some, None, Option, sym, refl, ap, ◌∙◌, subst, add-one, arith, length-set, length-take}
-use Rattle.std.proofs.lemmas.List.{take-set-le, drop-set-lt, map-append, drop-drop}
+use Rattle.std.proofs.Common.{◌≡◌, ℕ, zero, suc, ◌+◌, ◌<◌, ◌≤◌, Bool, List, [], ◌∷◌, ◌++◌, map, length, take, drop, set, Some, None, Option, sym, refl, ap, ◌∙◌, add-one, arith, length-take}
+use Rattle.std.proofs.lemmas.List.{map-append, drop-drop}
 use Rattle.routing.specs.Net.{Net, Pos}
 use Rattle.judging.specs.declared.shown.Ending.{Ending}
-use Rattle.judging.specs.declared.shown.Ending.TheVariants.{Reaches, Rests, Returns}
+use Rattle.judging.specs.declared.shown.Ending.TheVariants.{Rests, Returns}
 use Rattle.judging.specs.declared.shown.RouteStep.{RouteStep}
 use Rattle.judging.specs.Chosen.{Chosen, index_of, returns_or, rests_or, next_in, walk_always}
 use Rattle.judging.specs.Steps.{as_pos, as_step, as_steps, as_next, Written}

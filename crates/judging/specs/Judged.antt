@@ -1,9 +1,9 @@
 -- What judging answers and writes.
-use Rattle.std.specs.Prelude.{◌≡◌, ℕ, zero, suc, ◌+◌, ◌*◌, ◌<◌, Bool, true, false, cond, ◌&&◌, List, length, drop, Some, None, Option, nat_le}
+use Rattle.std.specs.Prelude.{◌≡◌, ℕ, zero, suc, ◌+◌, ◌*◌, ◌<◌, Bool, false, cond, ◌&&◌, List, length, drop, Some, None, Option, nat_le}
 use Rattle.std.specs.List.{slice_get, between}
 use Rattle.routing.specs.declared.refusal.Refusal.{Refusal}
 use Rattle.routing.specs.declared.refusal.Refusal.TheVariants.{BadTable, TooShort}
-use Rattle.routing.specs.Net.{Pos, Net, Within, places}
+use Rattle.routing.specs.Net.{Pos, Net, places}
 use Rattle.routing.specs.Rules.{Rule, truth, mark, condition, non, both, either, ex, eu, eg, ef, ax, au, ag, af, Means}
 use Rattle.rounds.specs.Rounds.{Grown, Kept, LeastStable, Decided}
 use Rattle.tables.specs.declared.row.Row.{Row}

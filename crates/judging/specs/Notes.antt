@@ -1,5 +1,5 @@
 -- Notes on the way to E[p U q]: for each place the round in which a position of it was first in the set, and the setting that was picked then.
-use Rattle.std.specs.Prelude.{◌≡◌, ℕ, zero, suc, ◌<◌, Bool, true, false, cond, ◌&&◌, ◌⊎◌, List, [], ◌∷◌, is_some, Some, None, Option, ◌==◌, nat_le, slice_index}
+use Rattle.std.specs.Prelude.{◌≡◌, ℕ, zero, suc, ◌<◌, Bool, cond, ◌&&◌, ◌⊎◌, List, [], ◌∷◌, is_some, Some, None, Option, ◌==◌, nat_le, slice_index}
 use Rattle.routing.specs.Net.{Link, Net, Pos, places}
 use Rattle.judging.specs.Chosen.{pos, entering, or_next, goes_on}
 

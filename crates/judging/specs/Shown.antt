@@ -1,7 +1,7 @@
 -- What a shown route shows, by the meaning of rules on routes.
 use Rattle.std.specs.Prelude.{◌≡◌, ℕ, suc, ◌+◌, ◌-◌, ◌<◌, ◌≤◌, List, [], ◌∷◌, length, Some}
 use Rattle.std.specs.List.{slice_get}
-use Rattle.routing.specs.Net.{Net, Pos, Within, Step, Rests as AtRest, places}
+use Rattle.routing.specs.Net.{Net, Pos, Step, Rests as AtRest, places}
 use Rattle.routing.specs.Routes.{Route, Until}
 use Rattle.routing.specs.Rules.{Rule, truth, mark, condition, non, both, either, ex, eu, eg, ef, ax, au, ag, af, Means}
 use Rattle.judging.specs.declared.shown.Ending.{Ending}

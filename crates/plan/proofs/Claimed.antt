@@ -1,5 +1,5 @@
 -- The theorems of the format.
-use Rattle.std.proofs.Common.{◌≡◌, ℕ, zero, suc, ◌+◌, ◌-◌, ◌^◌, ◌<◌, ◌≤◌, true, false, ◌⊎◌, List, [], ◌∷◌, length, is_some, Some, None, Ok, Err, Option, Result, sym, refl, ap, ◌∙◌, subst, inl, inr, true≢false, arith}
+use Rattle.std.proofs.Common.{◌≡◌, ℕ, zero, suc, ◌^◌, ◌<◌, ◌⊎◌, List, [], ◌∷◌, length, is_some, Some, None, Ok, Err, Option, Result, sym, refl, ap, ◌∙◌, subst, inl, inr, true≢false, arith}
 use Rattle.std.proofs.lemmas.Bool.{cases_order}
 use Rattle.routing.specs.Rules.{Rule}
 use Rattle.rule_text.specs.declared.fault.Fault.{Fault}
@@ -11,7 +11,7 @@ use Rattle.plan.specs.declared.fault.PlanFault.{PlanFault}
 use Rattle.plan.specs.declared.fault.PlanFault.TheVariants.{InFile, InText}
 use Rattle.plan.specs.Format.{Plan, encoded}
 use Rattle.plan.specs.Contents.{plan_of, rule_count, text_at}
-use Rattle.plan.specs.Reading.{Each, IsRuleText, PlanRead, Refused, Sound, TextsRead}
+use Rattle.plan.specs.Reading.{Each, IsRuleText, PlanRead, Refused, Sound}
 use Rattle.plan.specs.Shape.{shape_fault}
 use Rattle.plan.proofs.Decoded.{Bytes, bytes_are_plan}
 use Rattle.plan.proofs.Readback.{encoded_plan, encoded_reads, encoded_shaped}

@@ -1,12 +1,10 @@
 -- A file that passes every test is the file of the plan that its fields hold.
-use Rattle.std.proofs.Common.{◌≡◌, ℕ, zero, suc, ◌+◌, ◌-◌, ◌*◌, ◌/◌, ◌%◌, ◌^◌, ◌<◌, ◌≤◌, List, [], ◌∷◌, ◌++◌, length, get_or, take, drop, Some, sym, refl, ap, ◌∙◌, subst, pow-suc, arith, lit<, lit≤, length-drop, length-take, drop-drop, take-add, w8, Fits}
+use Rattle.std.proofs.Common.{◌≡◌, ℕ, zero, suc, ◌+◌, ◌-◌, ◌*◌, ◌/◌, ◌%◌, ◌^◌, ◌<◌, ◌≤◌, List, [], ◌∷◌, ◌++◌, length, get_or, take, drop, sym, refl, ap, ◌∙◌, subst, pow-suc, arith, lit<, lit≤, length-drop, length-take, drop-drop, take-add, w8, Fits}
 use native.Mathlib.Nat.{one-le-pow}
 use lib.Seq.{take-length}
-use Rattle.std.specs.List.{slice_get, between}
-use Rattle.conditions.specs.declared.word.Word.{Word}
-use Rattle.routing.specs.declared.binding.Binding.{Binding}
+use Rattle.std.specs.List.{between}
 use Rattle.plan.specs.Numbers.{bytes_of, number_of, field}
-use Rattle.plan.specs.Format.{Plan, first_body, bindings_start, rules_start, binding_bytes, text_bytes, contents, entry, flat, encoded}
+use Rattle.plan.specs.Format.{first_body, bindings_start, rules_start, binding_bytes, text_bytes, contents, entry, flat, encoded}
 use Rattle.plan.specs.Contents.{place_count, binding_count, rule_count, listed, mark_at, binding_at, binding_byte, rule_byte, text_at, plan_of}
 use Rattle.plan.specs.Fitting.{length_listed}
 use Rattle.plan.specs.Reading.{Each, Sound, BindingFits, IsRuleText, TextsRead}

@@ -1,5 +1,5 @@
 -- The fields of a file, byte by byte.
-use Rattle.std.proofs.Common.{◌≡◌, ℕ, suc, ◌+◌, ◌*◌, ◌<◌, ◌≤◌, List, [], ◌∷◌, length, get_or, take, drop, refl, ap, ◌∙◌, arith, drop-cons}
+use Rattle.std.proofs.Common.{◌≡◌, ℕ, suc, ◌+◌, ◌*◌, ◌<◌, List, length, get_or, take, refl, ap, ◌∙◌, arith, drop-cons}
 use Rattle.plan.specs.Numbers.{number_of, field}
 
 -- A field's first byte, and the field behind it.

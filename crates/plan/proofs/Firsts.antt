@@ -4,7 +4,7 @@ use Rattle.std.proofs.lemmas.Bool.{eq-eqb, eqb-true, le-ltb, lt-ltb, ltb-false, 
 use Rattle.std.specs.Option.{option_or}
 use Rattle.plan.specs.declared.fault.FileFault.{FileFault}
 use Rattle.plan.specs.declared.fault.FileFaultKind.{FileFaultKind}
-use Rattle.plan.specs.declared.fault.FileFaultKind.TheVariants.{BadContents, WrongLength, NoPlace, OverLimit}
+use Rattle.plan.specs.declared.fault.FileFaultKind.TheVariants.{BadContents, NoPlace, OverLimit}
 use Rattle.plan.specs.Contents.{place_count, binding_byte, rule_byte}
 use Rattle.plan.specs.Numbers.{field}
 use Rattle.plan.specs.Shape.{first_fault, no_place, ends_fault, length_fault, lengths_fault, over, differs, faulty, wrong_length}

@@ -1,18 +1,18 @@
 -- A file that is longer than any plan has the fault that its front tells.
-use Rattle.std.proofs.Common.{◌≡◌, ℕ, zero, suc, ◌+◌, ◌*◌, ◌^◌, ◌<◌, ◌≤◌, Bool, true, false, not, eqb, ltb, ◌⊎◌, List, [], ◌∷◌, ◌++◌, length, take, drop, is_some, Some, None, Option, sym, refl, ap, ◌∙◌, subst, inl, inr, ⊎_elim, true≢false, arith, lit≤, length-append, length-drop, MatchOption}
+use Rattle.std.proofs.Common.{◌≡◌, ℕ, zero, suc, ◌+◌, ◌*◌, ◌^◌, ◌<◌, ◌≤◌, Bool, true, false, not, ltb, List, [], ◌∷◌, ◌++◌, length, take, drop, is_some, Some, None, Option, sym, refl, ap, ◌∙◌, subst, inl, inr, ⊎_elim, true≢false, arith, lit≤, length-append, length-drop, MatchOption}
 use lib.Seq.{take-append-le, drop-append-le}
 use Rattle.std.specs.Option.{option_or}
-use Rattle.std.proofs.lemmas.Bool.{le-ltb, ne_eqb}
+use Rattle.std.proofs.lemmas.Bool.{ne_eqb}
 use Rattle.plan.specs.declared.fault.FileFault.{FileFault}
 use Rattle.plan.specs.declared.fault.FileFaultKind.TheVariants.{OverLimit, WrongLength}
 use Rattle.plan.specs.Numbers.{field, number_of}
-use Rattle.plan.specs.Format.{first_body, bindings_start, rules_start, longest}
+use Rattle.plan.specs.Format.{rules_start, longest}
 use Rattle.plan.specs.Contents.{place_count, binding_count, rule_count, rule_byte}
 use Rattle.plan.specs.declared.fault.PlanFault.TheVariants.{InFile}
 use Rattle.plan.specs.Faults.{file_fault}
 use Rattle.plan.specs.Reading.{LeftOpen, Refused}
-use Rattle.plan.specs.Shape.{counts_fault, contents_fault, differs, end_fault, ends_fault, faulty, first_fault, length_fault, lengths_fault, over, shape_fault, wrong_length}
-use Rattle.plan.proofs.Firsts.{cases_none, none_faulty, or_nones, or_none, or_some, over_none}
+use Rattle.plan.specs.Shape.{counts_fault, contents_fault, end_fault, ends_fault, faulty, first_fault, length_fault, lengths_fault, over, shape_fault, wrong_length}
+use Rattle.plan.proofs.Firsts.{cases_none, or_nones, or_some}
 use Rattle.plan.proofs.Shaped.{counts_pass, later, length_none, shape_whole}
 
 -- A field of the front is that of the file.

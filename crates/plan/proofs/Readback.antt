@@ -1,16 +1,16 @@
 -- The fields of a plan's file hold the plan.
-use Rattle.std.proofs.Common.{◌≡◌, ℕ, zero, suc, ◌+◌, ◌-◌, ◌*◌, ◌/◌, ◌%◌, ◌^◌, ◌<◌, ◌≤◌, List, [], ◌∷◌, ◌++◌, length, take, drop, Some, None, Ok, sym, refl, ap, ◌∙◌, subst, append_assoc, append-nil, pow-suc, mul-suc, arith, lit<, lit≤, length-append}
+use Rattle.std.proofs.Common.{◌≡◌, ℕ, zero, suc, ◌+◌, ◌-◌, ◌*◌, ◌/◌, ◌^◌, ◌<◌, ◌≤◌, List, [], ◌∷◌, ◌++◌, length, take, drop, Some, Ok, sym, refl, ap, ◌∙◌, subst, append_assoc, append-nil, pow-suc, mul-suc, arith, lit≤, length-append}
 use lib.Seq.{drop-append-add, take-append-le, take-length, drop-append_seam}
 use Rattle.std.specs.List.{slice_get}
 use Rattle.conditions.specs.declared.word.Word.{Word}
 use Rattle.routing.specs.declared.binding.Binding.{Binding}
 use Rattle.rule_text.specs.Reading.{Reading}
 use Rattle.plan.specs.Numbers.{bytes_of, number_of, field}
-use Rattle.plan.specs.Format.{Plan, first_body, bindings_start, rules_start, binding_bytes, text_bytes, contents, entry, flat, encoded}
+use Rattle.plan.specs.Format.{Plan, first_body, bindings_start, rules_start, binding_bytes, text_bytes, contents, flat, encoded}
 use Rattle.plan.specs.Contents.{place_count, binding_count, rule_count, listed, mark_at, binding_at, binding_byte, rule_byte, text_at, plan_of}
-use Rattle.plan.specs.Reading.{Each, Sound, BindingFits, IsRuleText, TextsRead}
+use Rattle.plan.specs.Reading.{Sound, TextsRead}
 use Rattle.plan.proofs.Encoded.{length_encoded, length_marks}
-use Rattle.plan.proofs.Flat.{flat_append, length_flat}
+use Rattle.plan.proofs.Flat.{length_flat}
 use Rattle.plan.proofs.Lent.{rule_short}
 use Rattle.plan.proofs.Oversized.{field_front}
 use Rattle.plan.proofs.Shaped.{Shaped, rule_bytes_up}

@@ -9,7 +9,7 @@ use Rattle.rule_text.specs.Reading.{Reading as TextReading, StandsFor, table_row
 use Rattle.rule_text.specs.Rows.{rows_of}
 use Rattle.plan.specs.declared.fault.PlanFault.{PlanFault}
 use Rattle.plan.specs.declared.file.PlanFile.{PlanFile}
-use Rattle.plan.specs.Format.{Plan, encoded}
+use Rattle.plan.specs.Format.{Plan}
 use Rattle.plan.specs.Contents.{plan_of, plan_net}
 use Rattle.plan.specs.Reading.{PlanRead}
 

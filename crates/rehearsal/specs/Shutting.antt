@@ -1,5 +1,5 @@
 -- Binding records with the set of one of them replaced.
-use Rattle.std.specs.Prelude.{ℕ, List, set, slice_index_or, slice_set}
+use Rattle.std.specs.Prelude.{ℕ, List, slice_index_or, slice_set}
 use Rattle.conditions.specs.declared.word.Word.{Word}
 use Rattle.routing.specs.declared.binding.Binding.{Binding}
 

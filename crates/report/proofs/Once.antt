@@ -1,5 +1,5 @@
 -- What is printed is determined: one verdict, one count of rounds, one line for each rule.
-use Rattle.std.proofs.Common.{◌≡◌, ℕ, zero, suc, ◌+◌, ◌<◌, ◌⊎◌, List, [], ◌∷◌, ◌++◌, length, Ok, Err, sym, refl, ap, ◌∙◌, subst, inl, inr, arith}
+use Rattle.std.proofs.Common.{◌≡◌, ℕ, zero, suc, ◌<◌, ◌⊎◌, List, [], ◌∷◌, ◌++◌, length, Ok, Err, sym, refl, ap, ◌∙◌, subst, inl, inr, arith}
 use Rattle.conditions.specs.Sets.{Picked}
 use Rattle.conditions.proofs.Picking.{picked_in, picked_first}
 use Rattle.routing.specs.Net.{Net, Pos, settings}

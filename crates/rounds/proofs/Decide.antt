@@ -1,7 +1,6 @@
 -- The test of every rule decides its meaning.
-use Rattle.std.proofs.Common.{Bool, true, not, ◌&&◌, ◌||◌, get_or, refl}
+use Rattle.std.proofs.Common.{Bool, true, not, ◌&&◌, ◌||◌, refl}
 use Rattle.std.proofs.lemmas.Bool.Decides.{Decides-like, Decides-not, Decides-and, Decides-or}
-use Rattle.conditions.specs.Sets.{bit}
 use Rattle.routing.specs.Net.{Net, Pos, places}
 use Rattle.routing.specs.Routes.{EveryNext, SomeUntil, EveryUntil, SomeAlways, EveryAlways}
 use Rattle.routing.specs.Rules.{Rule, truth, mark, condition, non, both, either, ex, eu, eg, ef, ax, au, ag, af, Means}

@@ -1,5 +1,5 @@
 -- The rounds of judging: the sequences T(0), T(1), .. of sets of positions by which E[p U q] and EG p are worked out.
-use Rattle.std.specs.Prelude.{◌≡◌, ℕ, zero, suc, ◌<◌, Bool, true, ◌⊎◌, ◌↔◌, Decides}
+use Rattle.std.specs.Prelude.{ℕ, zero, suc, ◌<◌, Bool, ◌⊎◌, ◌↔◌, Decides}
 use Rattle.routing.specs.Net.{Pos, Net, Within, Rests}
 use Rattle.routing.specs.Routes.{SomeNext}
 

@@ -1,9 +1,9 @@
 -- The worked cases, by the test that decides every rule.
-use Rattle.std.proofs.Common.{◌≡◌, ℕ, ◌<◌, ◌≤◌, Bool, true, false, [], ◌∷◌, sym, refl, subst, arith, lit<}
+use Rattle.std.proofs.Common.{◌≡◌, ℕ, ◌<◌, ◌≤◌, true, false, refl, subst, arith, lit<}
 use native.Mathlib.Decide.{dec_le}
 use Rattle.std.proofs.lemmas.Bool.{both_ways}
-use Rattle.routing.specs.Net.{Net, Pos, Within}
-use Rattle.routing.specs.Rules.{Rule, truth, mark, condition, non, both, either, ex, eu, eg, ef, ax, au, ag, af, Means}
+use Rattle.routing.specs.Net.{Pos, Within}
+use Rattle.routing.specs.Rules.{Rule, truth, non, ex, eu, eg, ef, ax, ag, af, Means}
 use Rattle.rounds.specs.Rounds.{Grown}
 use Rattle.rounds.specs.Truth.{any_below, any_of, reached, leads, into, moves, grown, kept, true_at}
 use Rattle.rounds.proofs.Decide.{true_at_decides}

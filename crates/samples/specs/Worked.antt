@@ -1,9 +1,9 @@
 -- The worked cases: what rules mean at positions of the trial networks.
-use Rattle.std.specs.Prelude.{◌≡◌, ℕ, ◌≤◌, List, [], ◌∷◌}
+use Rattle.std.specs.Prelude.{◌≡◌, ℕ, ◌≤◌, [], ◌∷◌}
 use Rattle.routing.specs.Net.{Net, Pos}
 use Rattle.routing.specs.Routes.{Route, Until}
-use Rattle.routing.specs.Rules.{Rule, truth, mark, non, ex, eu, eg, ef, ax, ag, af, Means}
-use Rattle.judging.specs.Chosen.{Chosen, chosen}
+use Rattle.routing.specs.Rules.{Rule, mark, non, ex, eu, eg, ef, ax, ag, af, Means}
+use Rattle.judging.specs.Chosen.{chosen}
 use Rattle.judging.specs.declared.shown.Ending.TheVariants.{Returns}
 use Rattle.samples.specs.Networks.{P, L, at}
 

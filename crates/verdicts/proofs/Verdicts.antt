@@ -1,8 +1,7 @@
 -- What an accepted call says, and verdicts on positions that are the same.
-use Rattle.std.proofs.Common.{◌≡◌, ℕ, ◌+◌, ◌*◌, ◌<◌, ◌≤◌, Bool, true, false, cond, ◌&&◌, leb, List, length, Some, None, Option, sym, refl, ap, ◌∙◌, subst, arith}
+use Rattle.std.proofs.Common.{◌≡◌, ℕ, ◌*◌, ◌<◌, ◌≤◌, Bool, true, false, cond, ◌&&◌, leb, List, length, Some, None, refl, arith}
 use Rattle.std.proofs.lemmas.Bool.{and_parts, leb-true}
 use Rattle.conditions.proofs.Picking.{picked_like}
-use Rattle.routing.specs.declared.refusal.Refusal.{Refusal}
 use Rattle.routing.specs.declared.refusal.Refusal.TheVariants.{BadTable, TooShort}
 use Rattle.routing.specs.Net.{Pos, Net, Within, places, settings}
 use Rattle.tables.specs.declared.row.Row.{Row}
@@ -11,7 +10,7 @@ use Rattle.judging.specs.Judged.{judge_refusal}
 use Rattle.judging.proofs.Alike.{Alike}
 use Rattle.verdicts.specs.declared.verdict.Verdict.{Verdict}
 use Rattle.verdicts.specs.declared.verdict.Verdict.TheVariants.{Holds, Breaks}
-use Rattle.verdicts.specs.Verdicts.{Entry, FirstFailing, Told}
+use Rattle.verdicts.specs.Verdicts.{Told}
 
 two_tests : (t u : Bool) → cond t (cond u None (Some TooShort)) (Some BadTable) ≡ None → (t ≡ true) × (u ≡ true)
 two_tests true true e = (refl, refl)

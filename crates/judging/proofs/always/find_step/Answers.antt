@@ -1,7 +1,6 @@
-use Rattle.std.proofs.Common.{◌≡◌, true, false, map, get_or, Some, sym, refl, ap, ◌∙◌, subst, ⊎_elim, arith}
+use Rattle.std.proofs.Common.{◌≡◌, map, get_or, Some, sym, ap, ◌∙◌, ⊎_elim, arith}
 use Rattle.std.specs.List.{slice_get}
 use Rattle.std.proofs.lemmas.Bool.{cases_eq}
-use Rattle.routing.specs.Net.{Pos}
 use Rattle.judging.specs.Chosen.{same_pos}
 use Rattle.judging.specs.Steps.{as_pos}
 use Rattle.judging.proofs.Seen.{nth_pos, length_pos, index_found, index_none}

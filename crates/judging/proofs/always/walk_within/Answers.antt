@@ -1,10 +1,10 @@
-use Rattle.std.proofs.Common.{◌≡◌, ℕ, zero, suc, ◌+◌, ◌-◌, ◌<◌, ◌≤◌, List, [], ◌∷◌, ◌++◌, map, length, take, drop, set, Some, None, Option, sym, refl, ap, ◌∙◌, subst, arith, length-set}
+use Rattle.std.proofs.Common.{◌≡◌, ℕ, suc, ◌+◌, ◌-◌, ◌<◌, List, [], map, length, take, drop, set, Option, sym, refl, ap, ◌∙◌, subst, arith, length-set}
 use Rattle.std.proofs.lemmas.List.{drop-set-lt}
 use Rattle.routing.specs.Net.{Net, Pos, places}
 use Rattle.judging.specs.Judged.{covers}
 use Rattle.judging.specs.declared.shown.RouteStep.{RouteStep}
-use Rattle.judging.specs.Chosen.{index_of, walk_always, next_in}
-use Rattle.judging.specs.Steps.{as_pos, as_step, as_next}
+use Rattle.judging.specs.Chosen.{index_of, walk_always}
+use Rattle.judging.specs.Steps.{as_pos}
 use Rattle.judging.specs.declared.shown.Ending.TheVariants.{Rests}
 use Rattle.judging.proofs.Walked.{next_is, next_is_none, drop_more, written_front, walk_returns, walk_stops, walk_rests, walk_goes_on, seen_more}
 use Rattle.judging.proofs.always.walk_within.Goals as goal

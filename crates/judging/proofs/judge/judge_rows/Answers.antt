@@ -1,7 +1,7 @@
-use Rattle.std.proofs.Common.{◌≡◌, ℕ, ◌+◌, ◌*◌, ◌<◌, ◌≤◌, true, false, List, length, get_or, sym, refl, ap, ◌∙◌, subst, arith}
+use Rattle.std.proofs.Common.{◌≡◌, ℕ, ◌+◌, ◌*◌, ◌≤◌, true, List, length, get_or, sym, refl, ap, ◌∙◌, subst, arith}
 use Rattle.std.proofs.lemmas.Bool.{true≢false}
 use Rattle.routing.specs.Net.{Net, places}
-use Rattle.tables.specs.Tables.{accepted, coded, row_fits, no_row}
+use Rattle.tables.specs.Tables.{coded, row_fits, no_row}
 use Rattle.tables.proofs.Fits.{accepted_few, accepted_row}
 use Rattle.judging.proofs.Operands.{part_before}
 use Rattle.judging.proofs.RuleRows.{fits_named, fits_first, fits_second}

@@ -1,7 +1,7 @@
-use Rattle.std.proofs.Common.{◌≡◌, ℕ, suc, ◌+◌, ◌<◌, ◌≤◌, Bool, true, false, ◌&&◌, ◌||◌, List, length, sym, refl, ap, ◌∙◌, subst, ⊎_elim, add-one, arith}
+use Rattle.std.proofs.Common.{◌≡◌, ℕ, suc, ◌+◌, ◌<◌, Bool, true, false, length, sym, ap, ◌∙◌, subst, ⊎_elim, add-one, arith}
 use Rattle.std.proofs.lemmas.Bool.{cases_eq}
 use Rattle.routing.specs.Net.{Net, Pos, Within, places}
-use Rattle.rounds.specs.Truth.{grown, into}
+use Rattle.rounds.specs.Truth.{grown}
 use Rattle.judging.specs.Judged.{covers}
 use Rattle.judging.specs.Notes.{Noted, never}
 use Rattle.judging.specs.Steps.{as_pos}

@@ -1,19 +1,17 @@
-use Rattle.std.proofs.Common.{◌≡◌, ℕ, ◌+◌, ◌*◌, ◌<◌, ◌≤◌, Bool, true, false, ◌⊎◌, List, length, get_or, sym, refl, ap, ◌∙◌, subst, inl, inr, arith}
+use Rattle.std.proofs.Common.{◌≡◌, ℕ, ◌+◌, ◌*◌, ◌<◌, ◌≤◌, Bool, true, length, get_or, sym, refl, ap, ◌∙◌, subst, inr, arith}
 use Rattle.std.proofs.lemmas.Bool.{true≢false}
 use Rattle.std.proofs.lemmas.Bool.Decides.{not_from_Decides}
 use Rattle.routing.specs.Net.{Net, Pos, places}
 use Rattle.routing.specs.Rules.{Rule, Means}
 use Rattle.rounds.specs.Rounds.{Decided}
 use Rattle.tables.specs.declared.row.Row.{Row}
-use Rattle.tables.specs.declared.row.Operation.{Operation}
 use Rattle.tables.specs.Tables.{coded, row_fits, no_row, rule_at}
 use Rattle.tables.proofs.Fits.{accepted_row}
-use Rattle.judging.specs.declared.shown.Ending.{Ending}
 use Rattle.judging.specs.Chosen.{Chosen, chosen}
 use Rattle.judging.specs.Judged.{covers, row_part}
-use Rattle.judging.specs.Shown.{CanShow, Trail, Shows}
+use Rattle.judging.specs.Shown.{CanShow, Shows}
 use Rattle.judging.specs.Steps.{as_pos, chosen_by, Written}
-use Rattle.judging.proofs.Asked.{Asked, asked, can_show}
+use Rattle.judging.proofs.Asked.{asked, can_show}
 use Rattle.judging.proofs.Operands.{part_before}
 use Rattle.judging.proofs.Right.{shown_right}
 use Rattle.judging.proofs.RuleRows.{operation_rule, fits_first, fits_second, rule_at_row}

@@ -1,10 +1,10 @@
-use Rattle.std.proofs.Common.{◌≡◌, ℕ, ◌+◌, ◌^◌, ◌<◌, Bool, true, ◌⊎◌, List, length, Decides, sym, ap, ◌∙◌, subst, arith}
-use Rattle.routing.specs.Net.{Pos, Net, settings, places}
+use Rattle.std.proofs.Common.{ℕ, ◌+◌, ◌^◌, ◌<◌, List, length, Decides, sym, ◌∙◌, subst, arith}
+use Rattle.routing.specs.Net.{Pos, Net, settings}
 use Rattle.routing.specs.Bindings.{linked}
 use Rattle.rounds.specs.Claims.{Is}
 use Rattle.judging.specs.Judged.{covers}
 use Rattle.judging.proofs.Covers.{covers_below}
-use Rattle.judging.proofs.Into.{Into, By, into_none, into_more, into_all}
+use Rattle.judging.proofs.Into.{Into, into_none, into_more, into_all}
 use Rattle.judging.proofs.row_rounds.steps_into.Goals as goal
 use Rattle.judging.proofs.row_rounds.steps_into.Goals.{in-Some, in_default}
 

@@ -1,5 +1,4 @@
-use Rattle.std.proofs.Common.{◌≡◌, ℕ, ◌+◌, ◌*◌, ◌<◌, ◌≤◌, List, length, sym, ap, ◌∙◌, subst, arith, length-drop, length-take}
-use Rattle.routing.specs.Net.{Net, Pos, places}
+use Rattle.std.proofs.Common.{◌≡◌, ℕ, ◌+◌, ◌*◌, ◌<◌, ◌≤◌, List, length, sym, ap, ◌∙◌, subst, arith}
 use Rattle.judging.specs.Judged.{covers, row_part}
 use Rattle.judging.specs.Steps.{as_pos}
 use Rattle.judging.proofs.Covers.{covers_read}

@@ -1,12 +1,12 @@
-use Rattle.std.proofs.Common.{◌≡◌, ℕ, ◌+◌, ◌≤◌, cond, List, [], ◌∷◌, map, length, take, drop, set, Some, None, Option, sym, refl, ap, ◌∙◌, arith, length-set}
+use Rattle.std.proofs.Common.{◌≡◌, ◌≤◌, List, [], ◌∷◌, map, length, take, set, sym, refl, ap, ◌∙◌, arith, length-set}
 use Rattle.std.proofs.lemmas.List.{drop-set-lt}
 use Rattle.std.proofs.lemmas.Bool.{cond-true, cond-false}
-use Rattle.routing.specs.Net.{Net, Pos}
+use Rattle.routing.specs.Net.{Pos}
 use Rattle.judging.specs.declared.shown.Ending.TheVariants.{Reaches, Rests, Returns}
 use Rattle.judging.specs.declared.shown.RouteStep.{RouteStep}
 use Rattle.judging.specs.Chosen.{chosen_next}
 use Rattle.judging.specs.Steps.{as_pos}
-use Rattle.judging.proofs.Walked.{next_is, next_is_none, written_front, take_set, seen_more}
+use Rattle.judging.proofs.Walked.{next_is, next_is_none, written_front}
 use Rattle.judging.proofs.showing.show_next.Goals as goal
 
 -- The first record, and the first two.

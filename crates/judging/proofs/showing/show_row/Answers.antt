@@ -4,8 +4,6 @@ use Rattle.tables.specs.declared.row.Operation.{Operation}
 use Rattle.tables.specs.declared.row.Operation.TheVariants.{Yes, Mark, Condition, Not, And, Or, Next, Until, Always}
 use Rattle.tables.specs.Tables.{coded}
 use Rattle.judging.specs.declared.shown.Ending.TheVariants.{Rests}
-use Rattle.judging.specs.declared.shown.RouteStep.{RouteStep}
-use Rattle.judging.specs.declared.shown.Shown.{Shown}
 use Rattle.judging.specs.Chosen.{Chosen, chosen_next, next_in, walk_always}
 use Rattle.judging.specs.Judged.{covers, row_part}
 use Rattle.judging.specs.Shapes.{first_is_row, second_is_row}

@@ -1,5 +1,5 @@
-use Rattle.std.proofs.Common.{◌≡◌, ℕ, ◌+◌, ◌*◌, ◌<◌, ◌≤◌, List, length, sym, ap, ◌∙◌, subst, arith, length-drop, length-take}
-use Rattle.routing.specs.Net.{Net, Pos, places}
+use Rattle.std.proofs.Common.{◌≡◌, ℕ, ◌+◌, ◌*◌, ◌≤◌, List, length, sym, ap, ◌∙◌, subst, arith, length-take}
+use Rattle.routing.specs.Net.{Net, Pos}
 use Rattle.judging.specs.Chosen.{chosen_until}
 use Rattle.judging.specs.Judged.{covers, row_part}
 use Rattle.judging.specs.Steps.{as_pos, Written}

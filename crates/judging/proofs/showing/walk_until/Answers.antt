@@ -1,9 +1,8 @@
-use Rattle.std.proofs.Common.{◌≡◌, ℕ, suc, ◌<◌, ◌≤◌, Bool, true, false, List, [], length, Some, None, sym, refl, ap, ◌∙◌, subst, arith}
+use Rattle.std.proofs.Common.{suc, List, sym, refl, ap, ◌∙◌, subst, arith}
 use Rattle.std.proofs.lemmas.List.{get_or-replicate}
 use Rattle.routing.specs.Net.{Net, Pos, places}
 use Rattle.rounds.specs.Truth.{grown}
 use Rattle.judging.specs.declared.shown.Ending.TheVariants.{Reaches}
-use Rattle.judging.specs.declared.shown.RouteStep.{RouteStep}
 use Rattle.judging.specs.Chosen.{Chosen}
 use Rattle.judging.specs.Judged.{covers}
 use Rattle.judging.specs.Notes.{never}

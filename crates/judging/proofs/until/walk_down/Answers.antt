@@ -1,10 +1,10 @@
-use Rattle.std.proofs.Common.{◌≡◌, ℕ, zero, suc, ◌+◌, ◌-◌, ◌<◌, ◌≤◌, List, [], ◌∷◌, ◌++◌, map, length, take, drop, set, Some, None, Option, sym, refl, ap, ◌∙◌, subst, append_assoc, arith, length-set}
+use Rattle.std.proofs.Common.{◌≡◌, ℕ, suc, ◌+◌, ◌-◌, ◌<◌, List, [], ◌∷◌, ◌++◌, map, length, take, drop, set, Some, None, Option, sym, refl, ap, ◌∙◌, subst, append_assoc, arith, length-set}
 use Rattle.std.proofs.lemmas.List.{drop-set-lt}
 use Rattle.routing.specs.Net.{Net, Pos}
 use Rattle.judging.specs.declared.shown.Ending.TheVariants.{Reaches}
 use Rattle.judging.specs.Chosen.{goes_on}
 use Rattle.judging.specs.Notes.{noted_next, walk_noted}
-use Rattle.judging.specs.Steps.{as_pos, as_next}
+use Rattle.judging.specs.Steps.{as_pos}
 use Rattle.judging.proofs.Walked.{next_is, next_is_none, drop_more, written_front, seen_more}
 use Rattle.judging.proofs.until.walk_down.Goals as goal
 

@@ -1,5 +1,5 @@
-use Rattle.std.proofs.Common.{◌≡◌, ℕ, ◌+◌, ◌*◌, ◌≤◌, List, length, sym, ◌∙◌, subst, arith, length-drop, length-take}
-use Rattle.routing.specs.Net.{Net, places}
+use Rattle.std.proofs.Common.{◌≡◌, ℕ, ◌+◌, ◌*◌, ◌≤◌, length, sym, ◌∙◌, subst, arith, length-drop, length-take}
+use Rattle.routing.specs.Net.{Net}
 use Rattle.tables.specs.Tables.{coded}
 use Rattle.judging.specs.Judged.{covers, row_part}
 use Rattle.judging.specs.Shapes.{first_is_row, second_is_row}

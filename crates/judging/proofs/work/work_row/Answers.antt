@@ -1,8 +1,8 @@
-use Rattle.std.proofs.Common.{◌≡◌, ℕ, ◌^◌, ◌<◌, Bool, true, not, ◌&&◌, ◌||◌, ltb, List, length, get_or, Decides, sym, refl, ap, ◌∙◌, subst, arith}
+use Rattle.std.proofs.Common.{◌≡◌, ◌^◌, ◌<◌, Bool, not, ◌&&◌, ◌||◌, List, length, get_or, refl, ap, ◌∙◌, subst, arith}
 use Rattle.std.proofs.lemmas.Bool.{lt-ltb}
 use Rattle.std.proofs.lemmas.Bool.Decides.{Decides-at, Decides-not, Decides-and, Decides-or}
 use Rattle.conditions.specs.Sets.{bit}
-use Rattle.routing.specs.Net.{Net, Pos, Within, places}
+use Rattle.routing.specs.Net.{Net, Pos, Within}
 use Rattle.rounds.specs.Claims.{Is}
 use Rattle.rounds.specs.Rounds.{Grown, Kept, LeastStable, Decided}
 use Rattle.rounds.proofs.Exact.{until_exact, always_exact}

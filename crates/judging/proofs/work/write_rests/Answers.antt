@@ -1,8 +1,7 @@
-use Rattle.std.proofs.Common.{◌≡◌, ℕ, ◌^◌, ◌<◌, Bool, true, not, ◌&&◌, ltb, length, Decides, sym, ap, ◌∙◌, subst, arith}
-use Rattle.std.proofs.lemmas.Bool.{and_from, and_parts, lt-ltb}
+use Rattle.std.proofs.Common.{◌≡◌, ◌^◌, ◌<◌, true, not, length, Decides, ◌∙◌, arith}
+use Rattle.std.proofs.lemmas.Bool.{lt-ltb}
 use Rattle.std.proofs.lemmas.Bool.Decides.{Decides-at, Decides-like, Decides-not}
-use Rattle.routing.specs.Net.{Net, Pos, Within, Step, Rests}
-use Rattle.routing.specs.Routes.{SomeNext}
+use Rattle.routing.specs.Net.{Net, Pos, Within, Step}
 use Rattle.judging.specs.Judged.{covers}
 use Rattle.judging.proofs.Rows.{guard_true, setting_below}
 use Rattle.judging.proofs.work.write_rests.Goals as goal

@@ -1,6 +1,6 @@
-use Rattle.std.proofs.Common.{◌≡◌, ℕ, suc, ◌+◌, ◌-◌, sym, ap, ◌∙◌, arith}
-use Rattle.plan.specs.Contents.{binding_byte, binding_count}
-use Rattle.plan.specs.Shape.{ends_fault, no_place}
+use Rattle.std.proofs.Common.{◌≡◌, ◌-◌, sym, ap, ◌∙◌, arith}
+use Rattle.plan.specs.Contents.{binding_count}
+use Rattle.plan.specs.Shape.{ends_fault}
 use Rattle.plan.proofs.Firsts.{ends_stop, ends_go, ends_none}
 use Rattle.plan.proofs.shape.ends_fault.Goals as goal
 

@@ -1,12 +1,11 @@
-use Rattle.std.proofs.Common.{◌≡◌, ℕ, suc, ◌+◌, ◌-◌, ◌≤◌, Bool, true, false, not, eqb, List, Some, None, Option, sym, refl, ap, ◌∙◌, arith}
+use Rattle.std.proofs.Common.{◌≡◌, ℕ, ◌-◌, ◌≤◌, Bool, true, false, not, eqb, List, None, Option, sym, ap, ◌∙◌, arith}
 use Rattle.std.specs.Option.{option_or}
 use Rattle.std.proofs.lemmas.Bool.{eq-eqb, ne_eqb}
 use Rattle.plan.specs.declared.fault.FileFault.{FileFault}
 use Rattle.plan.specs.declared.fault.FileFaultKind.TheVariants.{WrongLength}
-use Rattle.plan.specs.Numbers.{field}
 use Rattle.plan.specs.Contents.{rule_byte, rule_count}
 use Rattle.plan.specs.Shape.{lengths_fault, end_fault, faulty}
-use Rattle.plan.proofs.Firsts.{lengths_stop, lengths_go, lengths_none, or_end, or_some, none_of, none_faulty}
+use Rattle.plan.proofs.Firsts.{lengths_stop, lengths_go, lengths_none, or_end, or_some, none_of}
 use Rattle.plan.proofs.Shaped.{length_at_none, rule_byte_next}
 use Rattle.plan.proofs.shape.rules_fault.Goals as goal
 

@@ -1,10 +1,10 @@
-use Rattle.std.proofs.Common.{◌≡◌, ℕ, ◌<◌, ◌≤◌, List, length, None, Option, sym, refl, ap, ◌∙◌, inl, inr, arith}
+use Rattle.std.proofs.Common.{◌≡◌, ℕ, ◌<◌, ◌≤◌, List, length, None, Option, sym, ap, ◌∙◌, inl, inr, arith}
 use Rattle.std.proofs.lemmas.Bool.{cases_lt}
 use Rattle.std.specs.Option.{option_or}
 use Rattle.plan.specs.declared.fault.FileFault.{FileFault}
 use Rattle.plan.specs.Contents.{binding_count, place_count, rule_count}
 use Rattle.plan.specs.Format.{longest, rules_start}
-use Rattle.plan.specs.Shape.{contents_fault, counts_fault, end_fault, ends_fault, lengths_fault, shape_fault}
+use Rattle.plan.specs.Shape.{contents_fault, counts_fault, end_fault, lengths_fault}
 use Rattle.plan.proofs.Firsts.{none_of, or_nones, pass_first, stop_first}
 use Rattle.plan.proofs.Shaped.{counts_pass, rule_bytes_rise, rules_pass, shape_cut, shape_whole}
 use Rattle.plan.proofs.shape.shape_fault.Goals as goal

@@ -1,8 +1,8 @@
-use Rattle.std.proofs.Common.{◌≡◌, ℕ, ◌+◌, ◌<◌, ◌≤◌, Bool, true, false, ◌&&◌, ltb, leb, List, length, get_or, is_some, Some, None, Option, sym, refl, ap, ◌∙◌, subst, ⊎_elim, arith, below_more, MatchOption}
+use Rattle.std.proofs.Common.{◌≡◌, ℕ, ◌+◌, ◌<◌, ◌≤◌, true, false, ltb, leb, List, length, get_or, is_some, Some, None, Option, sym, ap, ◌∙◌, arith, below_more, MatchOption}
 use Rattle.std.proofs.lemmas.Bool.{and_from, and_right, lt-ltb, le-leb, true≢false, false≢true}
 use Rattle.tables.specs.declared.row.Row.{Row}
 use Rattle.tables.specs.declared.row.Operation.{Operation}
-use Rattle.tables.specs.Tables.{row_fits, rows_fit, accepted, coded, no_row}
+use Rattle.tables.specs.Tables.{row_fits, accepted, coded, no_row}
 use Rattle.tables.proofs.Fits.{all_fit, one_fails}
 use Rattle.tables.proofs.table.is_accepted.Goals as goal
 

@@ -1,8 +1,7 @@
-use Rattle.std.proofs.Common.{◌≡◌, ℕ, ◌^◌, ◌<◌, Bool, true, false, not, ◌&&◌, ltb, ◌↔◌, length, sym, ap, ◌∙◌, subst, ⊎_elim, arith}
+use Rattle.std.proofs.Common.{◌≡◌, ℕ, ◌^◌, ◌<◌, Bool, true, not, ◌&&◌, ltb, ◌↔◌, sym, ◌∙◌, subst, ⊎_elim, arith}
 use Rattle.std.proofs.lemmas.Bool.{cases_eq, and_parts, and_from, lt-ltb, ltb-true, not-true, not_from_false, not-false, both_ways, cases_Bool, false≢true}
 use Rattle.conditions.proofs.Picking.{picked_like}
-use Rattle.routing.specs.Net.{Net, Pos, Within, settings}
-use Rattle.rounds.specs.Claims.{Is}
+use Rattle.routing.specs.Net.{Net, Pos, settings}
 use Rattle.judging.specs.Judged.{covers}
 use Rattle.judging.proofs.Covers.{covers_read, covers_at}
 use Rattle.judging.proofs.Rows.{guard_true, setting_below}

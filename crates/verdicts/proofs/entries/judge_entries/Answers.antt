@@ -1,5 +1,5 @@
-use Rattle.std.proofs.Common.{◌≡◌, ℕ, ◌+◌, ◌-◌, ◌*◌, ◌<◌, ◌≤◌, List, length, sym, ◌∙◌, subst, arith, length-drop, length-take}
-use Rattle.routing.specs.Net.{Net, Pos, places}
+use Rattle.std.proofs.Common.{ℕ, ◌+◌, ◌-◌, ◌*◌, ◌<◌, ◌≤◌, length, sym, subst, arith, length-drop, length-take}
+use Rattle.routing.specs.Net.{Net, places}
 use Rattle.routing.specs.Rules.{Means}
 use Rattle.rounds.specs.Claims.{Is}
 use Rattle.tables.specs.Tables.{rule_at}

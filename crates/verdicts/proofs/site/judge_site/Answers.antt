@@ -1,4 +1,4 @@
-use Rattle.std.proofs.Common.{◌≡◌, ℕ, ◌-◌, List, length, Some, None, Option, sym, subst, MatchResult}
+use Rattle.std.proofs.Common.{◌≡◌, ◌-◌, List, length, Some, None, Option, sym, subst, MatchResult}
 use Rattle.routing.specs.declared.refusal.Refusal.{Refusal}
 use Rattle.routing.specs.Net.{Net}
 use Rattle.routing.specs.Refusals.{opening}

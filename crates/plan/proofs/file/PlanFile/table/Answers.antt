@@ -1,4 +1,4 @@
-use Rattle.std.proofs.Common.{◌≡◌, ℕ, ◌<◌, List, Ok, Err, Result, sym, ◌∙◌, subst, arith}
+use Rattle.std.proofs.Common.{◌≡◌, ℕ, ◌<◌, List, Ok, Err, Result, sym, subst, arith}
 use mathlib.Core.Logic.{∥∥₁_elim}
 use Rattle.routing.specs.Rules.{Rule}
 use Rattle.rule_text.specs.declared.fault.Fault.{Fault}

@@ -1,5 +1,5 @@
-use Rattle.std.proofs.Common.{◌≡◌, ℕ, ◌+◌, List, take, drop, Some, sym, ap, ◌∙◌, arith}
-use Rattle.plan.specs.Contents.{rule_byte, rule_count, text_at}
+use Rattle.std.proofs.Common.{ℕ, ◌+◌, take, drop, Some, sym, ap, ◌∙◌, arith}
+use Rattle.plan.specs.Contents.{rule_count, text_at}
 use Rattle.plan.specs.Numbers.{field}
 use Rattle.plan.proofs.Listed.{nth_listed, nth_past}
 use Rattle.plan.proofs.Shaped.{shaped_of, text_inside}

@@ -1,4 +1,4 @@
-use Rattle.std.proofs.Common.{◌≡◌, ℕ, ◌+◌, List, length, take, drop, Ok, Err, sym, refl, ap, ◌∙◌, subst, arith, below_more}
+use Rattle.std.proofs.Common.{◌≡◌, ℕ, ◌+◌, List, length, take, drop, Ok, Err, ap, ◌∙◌, subst, arith, below_more}
 use Rattle.rule_text.specs.Reading.{Reading}
 use Rattle.plan.specs.Numbers.{field}
 use Rattle.plan.specs.Shape.{shape_fault}

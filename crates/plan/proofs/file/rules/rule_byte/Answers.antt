@@ -1,4 +1,4 @@
-use Rattle.std.proofs.Common.{◌≡◌, ap, ◌∙◌, arith}
+use Rattle.std.proofs.Common.{arith}
 use Rattle.plan.specs.Contents.{rule_byte}
 use Rattle.plan.proofs.Shaped.{rule_byte_next, shaped_of, text_inside}
 use Rattle.plan.proofs.file.rules.rule_byte.Goals as goal

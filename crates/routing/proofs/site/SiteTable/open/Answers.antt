@@ -1,10 +1,9 @@
-use Rattle.std.proofs.Common.{◌≡◌, ℕ, ◌≤◌, Bool, true, false, cond, ◌||◌, ltb, ◌⊎◌, List, length, take, Some, None, Option, refl, ap, ◌∙◌, subst, inl, inr, arith}
+use Rattle.std.proofs.Common.{◌≡◌, ℕ, ◌≤◌, Bool, true, false, cond, ◌||◌, ltb, ◌⊎◌, List, length, take, Some, None, refl, ap, ◌∙◌, subst, inl, inr, arith}
 use Rattle.std.specs.List.{slice_get}
 use Rattle.std.proofs.lemmas.List.{take_all}
 use Rattle.std.proofs.lemmas.Option.{slice_get_read}
-use Rattle.std.proofs.lemmas.Bool.{or_from, le-ltb, cond-true, cond-false}
+use Rattle.std.proofs.lemmas.Bool.{or_from, le-ltb, cond-false}
 use Rattle.routing.specs.declared.binding.Binding.{Binding}
-use Rattle.routing.specs.declared.refusal.Refusal.{Refusal}
 use Rattle.routing.specs.declared.refusal.Refusal.TheVariants.{NoPlace, OverLimit}
 use Rattle.routing.specs.Refusals.{all_inside, opening}
 use Rattle.routing.proofs.Inside.{inside_more, inside_fails}

@@ -1,4 +1,4 @@
-use Rattle.std.proofs.Common.{◌≡◌, ◌<◌, ◌≤◌, Some, sym, refl, ap, ◌∙◌, arith}
+use Rattle.std.proofs.Common.{Some, sym, ap, ◌∙◌, arith}
 use Rattle.plan.specs.Contents.{place_count, mark_at}
 use Rattle.plan.proofs.Listed.{nth_listed, nth_past}
 use Rattle.plan.proofs.file.open.PlanFileNetwork.marks.Goals as goal

@@ -1,4 +1,4 @@
-use Rattle.std.proofs.Common.{◌≡◌, arith}
+use Rattle.std.proofs.Common.{arith}
 use Rattle.std.proofs.lemmas.Option.{slice_get-get_or}
 use Rattle.routing.specs.Fitting.{length_links, nth_link, link_inside}
 use Rattle.routing.proofs.site.table.SiteTableNetwork.binding.Goals as goal
