@@ -7,8 +7,7 @@ pub returns-then-number-self : goal.returns-then-number-self
 returns-then-number-self g c =
     let t = c.args.self.now in
     let holds = g.S.ConditionSet.holds in
-    let b = c.index-self-number.result in
-    let e = nth_link holds t.records.now c.args.number _ (slice_get-get_or t.records.now c.args.number b c.if-number-self.true) in
+    let e = nth_link holds t.records.now c.args.number _ (slice_get-get_or t.records.now c.args.number _ c.if-number-self.true) in
     record { value = e; ends = link_inside holds _ t.records.now t.ends c.args.number _ e }
 
 pub returns-else-number-self : goal.returns-else-number-self
