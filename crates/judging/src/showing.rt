@@ -130,7 +130,7 @@ pub(crate) fn show_row<N: Network>(
     steps: &mut [RouteStep],
 ) -> Shown
     requires over { (N.meaning net.now).conditions ≡ N.Set.ConditionSet.count }
-    requires earlier { ((first_is_row op ≡ true → (coded op).first < row)) × ((second_is_row op ≡ true → (coded op).second < row)) }
+    requires earlier { (first_is_row op ≡ true → (coded op).first < row) × (second_is_row op ≡ true → (coded op).second < row) }
     requires inside { Within (N.meaning net.now) (as_pos at) }
     requires room { (row * places (N.meaning net.now) + places (N.meaning net.now) ≤ length main.old) × ((2 * places (N.meaning net.now) ≤ length spare.old) × (places (N.meaning net.now) + 1 ≤ length steps.old)) }
     ensures { Written (chosen_by (N.meaning net.now) op (covers N.Set.ConditionSet.holds (row_part (places (N.meaning net.now)) (coded op).first main.old)) (covers N.Set.ConditionSet.holds (row_part (places (N.meaning net.now)) (coded op).second main.old)) (covers N.Set.ConditionSet.holds (row_part (places (N.meaning net.now)) row main.old)) (as_pos at)) steps.old steps.new result }

@@ -159,7 +159,7 @@ pub(crate) fn judge_row<N: Network>(
 ) -> usize
     requires over { (N.meaning net.now).conditions ≡ N.Set.ConditionSet.count }
     requires named { Named N.Set.ConditionSet.count op }
-    requires earlier { ((first_is_row op ≡ true → (coded op).first < row)) × ((second_is_row op ≡ true → (coded op).second < row)) }
+    requires earlier { (first_is_row op ≡ true → (coded op).first < row) × (second_is_row op ≡ true → (coded op).second < row) }
     requires room { (row * places (N.meaning net.now) + places (N.meaning net.now) ≤ length main.old) × (2 * places (N.meaning net.now) ≤ length spare.old) }
     ensures few { result ≤ places (N.meaning net.now) }
     ensures before { take (row * places (N.meaning net.now)) main.new ≡ take (row * places (N.meaning net.now)) main.old }

@@ -5,7 +5,7 @@ ghost use Rattle.rounds.specs.Claims.{AlwaysExact, AlwaysSettles, Duals, UntilEx
 
 // Carries the theorems of this crate; it answers nothing of use.
 pub fn rounds_stand()
-    ensures until { (UntilExact) × (UntilSettles) }
-    ensures always { (AlwaysExact) × (AlwaysSettles) }
+    ensures until { UntilExact × UntilSettles }
+    ensures always { AlwaysExact × AlwaysSettles }
     ensures every { Duals }
 {}
