@@ -1,5 +1,5 @@
 // A binding forwards orders from one place to another under a set of settings.
-#[derive(Clone, Copy)]
+#[derive(Clone, Copy, Debug, PartialEq, Eq)]
 pub struct Binding<S> {
     pub from: u16,
     pub to: u16,

@@ -1,5 +1,5 @@
 // The network with no places, over any condition set.
-ghost use Rattle.std.specs.Prelude.{[]};
+ghost use Rattle.std.specs.Prelude.{[], refl};
 ghost use Rattle.routing.specs.Bindings.{net_of};
 ghost use Rattle.routing.specs.Fitting.{empty_fits};
 
@@ -19,6 +19,8 @@ impl<S: ConditionSet> Network for Empty<S> {
     ghost meaning = { λ _. net_of S.ConditionSet.count S.ConditionSet.holds [] [] };
 
     ghost fits = { λ _. empty_fits S.ConditionSet.count S.ConditionSet.holds };
+
+    ghost over = { λ _. refl };
 
     fn conditions(&self) -> u32 {
         S::conditions()

@@ -9,6 +9,8 @@ impl<N: Network> Network for &N {
 
     ghost fits = { λ n. N.Network.fits n.now };
 
+    ghost over = { λ n. N.Network.over n.now };
+
     fn conditions(&self) -> u32 {
         (**self).conditions()
     }

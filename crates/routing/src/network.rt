@@ -19,13 +19,11 @@ pub trait Network {
 
     // The number of conditions.
     fn conditions(&self) -> u32
-        ensures value { result ≡ (meaning self.now).conditions }
-        ensures sets { result ≡ Self.Set.ConditionSet.count };
+        ensures { result ≡ (meaning self.now).conditions };
 
-    // The number of places. The settings of a position are those that the sets are over.
+    // The number of places.
     fn places(&self) -> usize
-        ensures value { result ≡ places (meaning self.now) }
-        ensures over { (meaning self.now).conditions ≡ Self.Set.ConditionSet.count };
+        ensures { result ≡ places (meaning self.now) };
 
     // The number of bindings.
     fn bindings(&self) -> usize
@@ -39,4 +37,7 @@ pub trait Network {
     fn binding(&self, number: usize) -> Option<Binding<Self::Set>>
         ensures value { MatchOption result (length (meaning self.now).bindings ≤ number) (λ b. slice_get (meaning self.now).bindings number ≡ Some (linked Self.Set.ConditionSet.holds b)) }
         ensures ends { IfSome result (λ b. Inside (places (meaning self.now)) (linked Self.Set.ConditionSet.holds b)) };
+
+    // The settings of a position are those that the sets are over.
+    ghost over: { (n : Self) → (meaning n).conditions ≡ Self.Set.ConditionSet.count };
 }

@@ -1,10 +1,11 @@
 // Reading rule tables.
 ghost use Rattle.std.specs.Prelude.{◌≡◌, true, false, MatchOption};
-ghost use Rattle.tables.specs.Tables.{row_fits, coded, accepted};
+ghost use Rattle.tables.specs.Tables.{accepted, coded, row_fits};
 
 use crate::row::{Operation, Row};
 
-const MOST_ROWS: usize = 32;
+// The most rows of a table.
+pub const MOST_ROWS: usize = 32;
 
 const MARKS: u8 = 32;
 
@@ -14,68 +15,33 @@ pub fn read_row(row: Row, at: usize, conditions: u32) -> Option<Operation>
 {
     let p = row.first;
     let q = row.second;
-    let earlier = (p as usize) < at;
+    let earlier = usize::from(p) < at;
     let alone = q == 0;
-    let later = (q as usize) < at;
-    match row.operation {
-        0 => if p == 0 && alone {
-            Some(Operation::Yes)
-        } else {
-            None
-        },
-        1 => if p < MARKS && alone {
-            Some(Operation::Mark(p))
-        } else {
-            None
-        },
-        2 => if (p as u32) < conditions && alone {
-            Some(Operation::Condition(p))
-        } else {
-            None
-        },
-        3 => if earlier && alone {
-            Some(Operation::Not(p))
-        } else {
-            None
-        },
-        4 => if earlier && later {
-            Some(Operation::And(p, q))
-        } else {
-            None
-        },
-        5 => if earlier && later {
-            Some(Operation::Or(p, q))
-        } else {
-            None
-        },
-        6 => if earlier && alone {
-            Some(Operation::Next(p))
-        } else {
-            None
-        },
-        7 => if earlier && later {
-            Some(Operation::Until(p, q))
-        } else {
-            None
-        },
-        8 => if earlier && alone {
-            Some(Operation::Always(p))
-        } else {
-            None
-        },
-        _ => None,
-    }
+    let later = usize::from(q) < at;
+    let (fits, operation) = match row.operation {
+        0 => (p == 0 && alone, Operation::Yes),
+        1 => (p < MARKS && alone, Operation::Mark(p)),
+        2 => (u32::from(p) < conditions && alone, Operation::Condition(p)),
+        3 => (earlier && alone, Operation::Not(p)),
+        4 => (earlier && later, Operation::And(p, q)),
+        5 => (earlier && later, Operation::Or(p, q)),
+        6 => (earlier && alone, Operation::Next(p)),
+        7 => (earlier && later, Operation::Until(p, q)),
+        8 => (earlier && alone, Operation::Always(p)),
+        _ => return None,
+    };
+    fits.then_some(operation)
 }
 
 // Whether the table is one that judging takes, over so many conditions.
 pub fn is_accepted(table: &[Row], conditions: u32) -> bool
     ensures { result ≡ accepted conditions table.now }
 {
-    if table.len() == 0 || table.len() > MOST_ROWS {
+    if table.is_empty() || table.len() > MOST_ROWS {
         return false;
     }
-    for i in 0..table.len() {
-        if read_row(table[i], i, conditions).is_none() {
+    for (i, row) in table.iter().enumerate() {
+        if read_row(*row, i, conditions).is_none() {
             return false;
         }
     }

@@ -1,8 +1,8 @@
 // Opening a site table, and the network that it is.
-ghost use Rattle.std.specs.Prelude.{◌≡◌, Some, None, MatchResult};
+ghost use Rattle.std.specs.Prelude.{◌≡◌, Some, None, MatchResult, refl};
 ghost use Rattle.routing.specs.Bindings.{net_of};
 ghost use Rattle.routing.specs.Refusals.{opening};
-ghost use Rattle.routing.specs.Sites.{site_marks, site_meaning, site_records, site_fits, Opening};
+ghost use Rattle.routing.specs.Sites.{site_marks, site_meaning, site_records, site_fits};
 
 use crate::binding::Binding;
 use crate::network::Network;
@@ -17,6 +17,8 @@ impl<'a, S: ConditionSet> Network for SiteTable<'a, S> {
 
     ghost fits = { site_fits S.ConditionSet.count S.ConditionSet.holds };
 
+    ghost over = { λ _. refl };
+
     fn conditions(&self) -> u32 {
         S::conditions()
     }
@@ -30,26 +32,12 @@ impl<'a, S: ConditionSet> Network for SiteTable<'a, S> {
     }
 
     fn marks(&self, place: usize) -> Option<u32> {
-        if place < self.marks.len() {
-            Some(self.marks[place])
-        } else {
-            None
-        }
+        self.marks.get(place).copied()
     }
 
     fn binding(&self, number: usize) -> Option<Binding<S>> {
-        if number < self.records.len() {
-            Some(self.records[number])
-        } else {
-            None
-        }
+        self.records.get(number).copied()
     }
-}
-
-// A site table, and why it was refused, if it was.
-pub struct OpenedSite<'a, S> {
-    pub site: SiteTable<'a, S>,
-    pub refusal: Option<Refusal>,
 }
 
 const MOST_PLACES: usize = 256;
@@ -65,29 +53,10 @@ impl<'a, S: ConditionSet> SiteTable<'a, S> {
             return Err(Refusal::OverLimit);
         }
         for b in records {
-            if b.from as usize >= marks.len() || b.to as usize >= marks.len() {
+            if usize::from(b.from) >= marks.len() || usize::from(b.to) >= marks.len() {
                 return Err(Refusal::NoPlace);
             }
         }
         Ok(SiteTable { marks, records })
-    }
-
-    // Opens a site table as `open` does; where that is refused, answers the refusal beside the table with no places.
-    pub fn opened(marks: &'a [u32], records: &'a [Binding<S>]) -> OpenedSite<'a, S>
-        ensures { Opening marks.now records.now result.site result.refusal }
-    {
-        match SiteTable::open(marks, records) {
-            Ok(site) => OpenedSite {
-                site,
-                refusal: None,
-            },
-            Err(refusal) => OpenedSite {
-                site: SiteTable {
-                    marks: &[],
-                    records: &[],
-                },
-                refusal: Some(refusal),
-            },
-        }
     }
 }

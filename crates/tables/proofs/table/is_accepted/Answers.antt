@@ -1,4 +1,4 @@
-use Rattle.std.proofs.Common.{◌≡◌, ℕ, ◌+◌, ◌<◌, ◌≤◌, true, false, ltb, leb, List, length, get_or, is_some, Some, None, Option, sym, ap, ◌∙◌, arith, below_more, MatchOption}
+use Rattle.std.proofs.Common.{rules, ◌≡◌, ℕ, ◌+◌, ◌<◌, ◌≤◌, true, false, ltb, leb, List, length, get_or, is_some, Some, None, Option, sym, ap, ◌∙◌, arith, below_more, MatchOption}
 use Rattle.std.proofs.lemmas.Bool.{and_from, and_right, lt-ltb, le-leb, true≢false, false≢true}
 use Rattle.tables.specs.declared.row.Row.{Row}
 use Rattle.tables.specs.declared.row.Operation.{Operation}
@@ -40,4 +40,4 @@ loop-i-preserved c =
 
 pub returns : goal.returns
 returns c =
-    sym (taken_in c.args.conditions c.args.table.now (omega arith) c.if-table-gt-MOST_ROWS.false (λ i l. c.loop-i.invariant i (omega arith)))
+    sym (taken_in c.args.conditions c.args.table.now (search rules) c.if-table-gt-MOST_ROWS.false (λ i l. c.loop-i.invariant i (omega arith)))

@@ -1,16 +1,23 @@
-use Rattle.std.proofs.Common.{arith}
-use Rattle.std.proofs.lemmas.Option.{slice_get-get_or}
-use Rattle.routing.specs.Fitting.{length_links, nth_link, link_inside}
+use Rattle.std.proofs.Common.{◌≡◌, ℕ, Bool, true, ltb, List, length, get_or, is_some, Some, None, Option, IfSome, sym, refl}
+use Rattle.std.specs.Borrow.{Bor}
+use Rattle.std.specs.Option.{option_copied}
+use Rattle.std.proofs.lemmas.Bool.{ltb-true}
+use Rattle.std.proofs.lemmas.Option.{slice_get_read}
+use Rattle.routing.specs.declared.binding.Binding.{Binding}
+use Rattle.routing.specs.Bindings.{linked, Inside}
+use Rattle.routing.specs.Refusals.{all_inside}
+use Rattle.routing.specs.Fitting.{nth_link, link_inside}
 use Rattle.routing.proofs.site.table.SiteTableNetwork.binding.Goals as goal
 
-pub returns-then-number-self : goal.returns-then-number-self
-returns-then-number-self g c =
-    let t = c.args.self.now in
-    let holds = g.S.ConditionSet.holds in
-    let e = nth_link holds t.records.now c.args.number _ (slice_get-get_or t.records.now c.args.number _ c.if-number-self.true) in
-    record { value = e; ends = link_inside holds _ t.records.now t.ends c.args.number _ e }
+-- The record that is lent at a number, if there is one, has its ends inside.
+ends_of : {S : Type 0} (holds : S → ℕ → Bool) (n : ℕ) (records : List (Binding S)) → all_inside n records ≡ true → (i : ℕ) (r : Option (Bor (Binding S)))
+    → is_some r ≡ ltb i (length records) → IfSome r (λ b. b.now ≡ get_or records i b.now) → IfSome (option_copied r) (λ b. Inside n (linked holds b))
+ends_of holds n records all i None some read = tt
+ends_of holds n records all i (Some b) some read =
+    link_inside holds n records all i _ (nth_link holds records i b.now (slice_get_read records _ i b.now refl (ltb-true i _ (sym some)) read))
 
-pub returns-else-number-self : goal.returns-else-number-self
-returns-else-number-self g c =
-    let n = length_links g.S.ConditionSet.holds c.args.self.now.records.now in
-    record { value = omega arith; ends = tt }
+pub returns-clause-ends : goal.returns-clause-ends
+returns-clause-ends g c =
+    let t = c.args.self.now in
+    let l = c.get.ensures.lookup in
+    rw c.copied.ensures (ends_of g.S.ConditionSet.holds _ t.records.now t.ends c.args.number c.get.result l.0 l.1)
