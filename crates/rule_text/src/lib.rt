@@ -10,7 +10,6 @@ pub mod grammar;
 mod parse;
 pub mod read;
 mod reader;
-mod rows;
 mod spell;
 mod split;
 pub mod table;

@@ -2,12 +2,13 @@
 ghost use Rattle.std.specs.Prelude.{Some};
 ghost use Rattle.rule_text.specs.Descent.{BothRead, ChoiceRead, OneRead, Onward, Enters};
 
-use crate::emit::{AND, CONDITION, MARK, OR, YES, close_prefix, close_until, emit, open_prefix};
+use crate::emit::{close_prefix, close_until, emit, open_prefix};
 use crate::fault::{Fault, FaultKind};
 use crate::reader::Reader;
-use crate::rows::Rows;
 use crate::split::{advance, has, take, unfit};
+use crate::table::Table;
 use crate::word::Word;
+use tables::row::Operation;
 
 // Goes past the word in hand, which opens or fills a level.
 fn enter(r: &mut Reader, levels: u32) -> Result<(), Fault>
@@ -25,7 +26,7 @@ fn enter(r: &mut Reader, levels: u32) -> Result<(), Fault>
 
 // A part: a word, a prefix with its part, a rule in brackets, or an until. Answers the number of its last row.
 #[cycle(both_choice_one)]
-fn one(r: &mut Reader, t: &mut Rows, levels: u32) -> Result<u8, Fault>
+fn one(r: &mut Reader, t: &mut Option<Table>, levels: u32) -> Result<u8, Fault>
     ensures on { Onward r.old r.new }
     ensures reads { OneRead levels r.old r.new t.old t.new result }
 {
@@ -35,20 +36,19 @@ fn one(r: &mut Reader, t: &mut Rows, levels: u32) -> Result<u8, Fault>
     match word {
         Word::Yes => {
             enter(r, levels)?;
-            Ok(emit(t, YES, 0, 0))
+            Ok(emit(t, Operation::Yes))
         }
         Word::Mark(k) => {
             enter(r, levels)?;
-            Ok(emit(t, MARK, k, 0))
+            Ok(emit(t, Operation::Mark(k)))
         }
         Word::Condition(k) => {
             enter(r, levels)?;
-            Ok(emit(t, CONDITION, k, 0))
+            Ok(emit(t, Operation::Condition(k)))
         }
         Word::Before(prefix) => {
             enter(r, levels)?;
-            let first = t.len as u8;
-            open_prefix(t, prefix);
+            let first = open_prefix(t, prefix);
             let part = one(r, t, levels - 1)?;
             Ok(close_prefix(t, prefix, first, part))
         }
@@ -73,7 +73,7 @@ fn one(r: &mut Reader, t: &mut Rows, levels: u32) -> Result<u8, Fault>
 
 // Parts joined by `&`.
 #[cycle(both_choice_one)]
-fn both(r: &mut Reader, t: &mut Rows, levels: u32) -> Result<u8, Fault>
+fn both(r: &mut Reader, t: &mut Option<Table>, levels: u32) -> Result<u8, Fault>
     ensures on { Onward r.old r.new }
     ensures reads { BothRead levels r.old r.new t.old t.new result }
 {
@@ -81,14 +81,14 @@ fn both(r: &mut Reader, t: &mut Rows, levels: u32) -> Result<u8, Fault>
     while has(r, Word::And) {
         advance(r)?;
         let right = one(r, t, levels)?;
-        left = emit(t, AND, left, right);
+        left = emit(t, Operation::And(left, right));
     }
     Ok(left)
 }
 
 // A whole rule: what `&` joins, joined by `|`.
 #[cycle(both_choice_one)]
-pub(crate) fn choice(r: &mut Reader, t: &mut Rows, levels: u32) -> Result<u8, Fault>
+pub(crate) fn choice(r: &mut Reader, t: &mut Option<Table>, levels: u32) -> Result<u8, Fault>
     ensures on { Onward r.old r.new }
     ensures reads { ChoiceRead levels r.old r.new t.old t.new result }
 {
@@ -96,7 +96,7 @@ pub(crate) fn choice(r: &mut Reader, t: &mut Rows, levels: u32) -> Result<u8, Fa
     while has(r, Word::Or) {
         advance(r)?;
         let right = both(r, t, levels)?;
-        left = emit(t, OR, left, right);
+        left = emit(t, Operation::Or(left, right));
     }
     Ok(left)
 }

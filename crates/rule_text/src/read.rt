@@ -7,11 +7,9 @@ ghost use Rattle.rule_text.specs.Reading.{Answer, Reading, StandsFor, table_rows
 use crate::fault::{Fault, FaultKind};
 use crate::parse::choice;
 use crate::reader::Reader;
-use crate::rows::Rows;
 use crate::split::{advance, unfit};
 use crate::table::Table;
 use conditions::set::ConditionSet;
-use tables::row::Row;
 
 const MOST_BYTES: usize = 200;
 
@@ -36,28 +34,14 @@ fn read_table(text: &[u8], conditions: u32) -> Result<Table, Fault>
         next: 0,
     };
     advance(&mut r)?;
-    let mut t = Rows {
-        rows: [Row {
-            operation: 0,
-            first: 0,
-            second: 0,
-        }; 32],
-        len: 0,
-        over: false,
-    };
+    let mut t = Some(Table::new());
     choice(&mut r, &mut t, MOST_LEVELS)?;
     if r.word.is_some() {
         return Err(unfit(&r));
     }
-    if t.over {
-        return Err(Fault {
-            kind: FaultKind::TooManyRows,
-            byte: text.len(),
-        });
-    }
-    Ok(Table {
-        rows: t.rows,
-        len: t.len,
+    t.ok_or(Fault {
+        kind: FaultKind::TooManyRows,
+        byte: text.len(),
     })
 }
 

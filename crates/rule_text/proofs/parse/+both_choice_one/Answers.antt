@@ -144,10 +144,10 @@ pub one-returns-in_ok-part-in-Before : goal.one-returns-in_ok-part-in-Before
 one-returns-in_ok-part-in-Before t c =
     record {
       on = onward c.args.r.now c.enter-in-Before.new.r c.one.new.r c.enter-in-Before.ensures.on c.one.ensures.on;
-      reads = Parts.one_prefix c.in-Before.prefix c.args.levels c.args.r.now c.enter-in-Before.new.r c.one.new.r c.args.t.now c.open_prefix.new.t c.one.new.t c.close_prefix.new.t c.in_ok-part-in-Before.part c.close_prefix.result
+      reads = Parts.one_prefix c.in-Before.prefix c.args.levels c.args.r.now c.enter-in-Before.new.r c.one.new.r c.args.t.now c.open_prefix-first.new.t c.one.new.t c.close_prefix.new.t c.in_ok-part-in-Before.part c.close_prefix.result
           (c.in-Some.is ∙ ap Some c.in-Before.is) c.in_ok-enter-in-Before.ensures.enters c.enter-in-Before.ensures.on c.in_ok-part-in-Before.ensures.reads
-          (λ p ad. added_prefix c.in-Before.prefix c.args.t.now c.open_prefix.new.t c.one.new.t c.close_prefix.new.t p c.args.t.now.len c.in_ok-part-in-Before.part c.close_prefix.result
-          c.open_prefix.ensures ad refl c.close_prefix.ensures.rows c.close_prefix.ensures.last);
+          (λ p ad. added_prefix c.in-Before.prefix c.args.t.now c.open_prefix-first.new.t c.one.new.t c.close_prefix.new.t p c.open_prefix-first.result c.in_ok-part-in-Before.part c.close_prefix.result
+          c.open_prefix-first.ensures.rows c.open_prefix-first.ensures.last ad c.close_prefix.ensures.rows c.close_prefix.ensures.last);
     }
 
 pub one-returns-in_err-part-in-Before : goal.one-returns-in_err-part-in-Before
@@ -155,7 +155,7 @@ one-returns-in_err-part-in-Before t c =
     record {
       on = onward c.args.r.now c.enter-in-Before.new.r c.one.new.r c.enter-in-Before.ensures.on c.one.ensures.on;
       reads = Parts.broken (OneRead c.args.levels c.args.r.now c.one.new.r c.args.t.now c.one.new.t) c.from_residual-in_err-part-in-Before.result c.in_err-part-in-Before.field-0.0 c.from_residual-in_err-part-in-Before.ensures.1
-          (Parts.one_prefix_not c.in-Before.prefix c.args.levels c.args.r.now c.enter-in-Before.new.r c.one.new.r c.one.new.r c.args.t.now c.open_prefix.new.t c.one.new.t c.one.new.t c.in_err-part-in-Before.field-0.0 (c.in-Some.is ∙ ap Some c.in-Before.is) c.in_ok-enter-in-Before.ensures.enters c.enter-in-Before.ensures.on c.in_err-part-in-Before.ensures.reads);
+          (Parts.one_prefix_not c.in-Before.prefix c.args.levels c.args.r.now c.enter-in-Before.new.r c.one.new.r c.one.new.r c.args.t.now c.open_prefix-first.new.t c.one.new.t c.one.new.t c.in_err-part-in-Before.field-0.0 (c.in-Some.is ∙ ap Some c.in-Before.is) c.in_ok-enter-in-Before.ensures.enters c.enter-in-Before.ensures.on c.in_err-part-in-Before.ensures.reads);
     }
 
 pub one-returns-in_err-whole-in-Open : goal.one-returns-in_err-whole-in-Open
