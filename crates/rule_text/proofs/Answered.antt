@@ -1,12 +1,11 @@
 -- What a text is answered with.
-use Rattle.std.proofs.Common.{◌≡◌, ℕ, suc, ◌+◌, ◌<◌, ◌≤◌, Bool, true, false, cond, ltb, leb, List, [], ◌∷◌, ◌++◌, length, is_some, IsErrAnd, Some, None, Ok, Err, Option, Result, sym, refl, ap, ◌∙◌, subst, arith, length-append}
+use Rattle.std.proofs.Common.{◌≡◌, ℕ, suc, ◌+◌, ◌<◌, ◌≤◌, Bool, true, false, cond, ltb, leb, List, [], ◌∷◌, ◌++◌, length, is_some, Some, None, Ok, Err, Option, sym, refl, ap, ◌∙◌, subst, arith, length-append}
 use Rattle.routing.specs.Rules.{Rule}
 use Rattle.rule_text.specs.declared.word.Word.{Word}
 use Rattle.rule_text.specs.declared.word.Word.TheVariants.{Yes, Mark, Condition, Before, Routes, Until, And, Or, Open, Close, OpenSquare, CloseSquare}
 use Rattle.rule_text.specs.Descent.{nothing, behind_part, or_with, next_state, Item, bad, items, unread, end_of, outcome, rows_kept, next_number, push_rows, ChoiceRead}
 use Rattle.std.proofs.lemmas.List.{length-take-le}
 use Rattle.std.proofs.lemmas.Bool.{cond-true, cond-false, le-leb, lt-leb, ltb-false, ltb-true, true≢false}
-use Rattle.std.proofs.lemmas.Result.{err_from_is_err_and}
 use Rattle.tables.specs.declared.row.Row.{Row}
 use Rattle.rule_text.specs.declared.fault.Fault.{Fault}
 use Rattle.rule_text.specs.declared.fault.FaultKind.TheVariants.{CannotFollow, TooManyRows}
@@ -116,7 +115,3 @@ some_word (Some v) e = (v, refl)
 pub no_word : (o : Option Word) → is_some o ≡ false → o ≡ None
 no_word None e = refl
 no_word (Some v) e = absurd (true≢false e)
-
--- The exit of a `?`.
-pub left_with : (P : Result Table Fault → Type 0) (r : Result Table Fault) (e : Fault) → IsErrAnd r (λ y. y ≡ e) → P (Err e) → P r
-left_with P r e by h = let q = err_from_is_err_and r by in subst P (ap Err (sym q.2) ∙ sym q.1) h

@@ -1,6 +1,5 @@
 -- What choice, both and one do, put together from their steps.
-use Rattle.std.proofs.Common.{◌≡◌, ℕ, ◌+◌, ◌-◌, ◌<◌, ◌≤◌, true, List, [], ◌∷◌, length, IsErrAnd, Some, None, Ok, Err, Option, Result, sym, refl, ap, ◌∙◌, subst, arith}
-use Rattle.std.proofs.lemmas.Result.{err_from_is_err_and}
+use Rattle.std.proofs.Common.{◌≡◌, ℕ, ◌+◌, ◌-◌, ◌<◌, ◌≤◌, true, List, [], ◌∷◌, length, Some, None, Ok, Err, Option, sym, refl, ap, ◌∙◌, arith}
 use Rattle.routing.specs.Rules.{Rule, both}
 use Rattle.tables.specs.declared.row.Operation.TheVariants.{And as AndRow, Or as OrRow}
 use Rattle.tables.specs.Tables.{coded}
@@ -16,10 +15,6 @@ use Rattle.rule_text.specs.Levels.{has_level}
 use Rattle.rule_text.specs.Descent.{unread, end_of, Onward, Stepped, Fails, Took, Missed, Enters, Around, inside, bracket, until_first, until_second, State, before_part, before_square, behind_part, part_done, or_with, next_state, depth, outcome, Added, OneRead, BothRead, ChoiceRead, Joining, Choosing, LastIs, push_row, rows_kept}
 use Rattle.rule_text.proofs.Emitted.{added_and, added_or}
 use Rattle.rule_text.proofs.Steps.{ahead_of, leads_bad, ends_same, entered, entered_not, only_close, only_close_square, only_square, only_until, passed, passed_not}
-
--- The exit of a `?`.
-pub broken : (P : Result ℕ Fault → Type 0) (r : Result ℕ Fault) (e : Fault) → IsErrAnd r (λ y. y ≡ e) → P (Err e) → P r
-broken P r e by h = let q = err_from_is_err_and r by in subst P (ap Err (sym q.2) ∙ sym q.1) h
 
 -- A word alone.
 pub one_word : (n : ℕ) (a b : Reader) (t u : Option Table) (r : ℕ) (w : Word) (f : Rule) → a.word ≡ Some w → (0 < n) × Stepped a b → Added t u f r

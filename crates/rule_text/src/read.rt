@@ -7,7 +7,6 @@ ghost use Rattle.rule_text.specs.Reading.{Answer, Reading, StandsFor, table_rows
 use crate::fault::{Fault, FaultKind};
 use crate::parse::choice;
 use crate::reader::Reader;
-use crate::split::{advance, unfit};
 use crate::table::Table;
 use conditions::set::ConditionSet;
 
@@ -33,11 +32,11 @@ fn read_table(text: &[u8], conditions: u32) -> Result<Table, Fault>
         start: text.len(),
         next: 0,
     };
-    advance(&mut r)?;
+    r.advance()?;
     let mut t = Some(Table::new());
     choice(&mut r, &mut t, MOST_LEVELS)?;
     if r.word.is_some() {
-        return Err(unfit(&r));
+        return Err(r.unfit());
     }
     t.ok_or(Fault {
         kind: FaultKind::TooManyRows,
