@@ -184,6 +184,18 @@ added_or t u v w p q a b r x y e l = record {
   last_is = l;
 }
 
+-- The three rows behind the part of an A form, by the numbers that they were answered with.
+pub all_prefix : (k k₁ k₂ k₃ : Option (List Row)) (w : Row) (g : ℕ → Row) (a b : ℕ)
+    → k₁ ≡ push_row k w → LastIs k₁ a → k₂ ≡ push_row k₁ (g a) → LastIs k₂ b → k₃ ≡ push_row k₂ (coded (NotRow b))
+    → k₃ ≡ push_rows k (w ∷ g (next_number k) ∷ coded (NotRow (next_number k + 1)) ∷ [])
+all_prefix k k₁ k₂ k₃ w g a b e₁ l₁ e₂ l₂ e₃ =
+    let n = next_number k in
+    let long₁ = len_more k k₁ (w ∷ []) n (n + 1) (len_next k) e₁ (omega arith) in
+    let long₂ = len_more k₁ k₂ (g a ∷ []) (n + 1) (n + 1 + 1) long₁ e₂ (omega arith) in
+    let ws : List Row = coded (NotRow (n + 1)) ∷ [] in
+    e₃ ∙ at_last k₂ b (n + 1) (λ i. coded (NotRow i) ∷ []) l₂ long₂ ∙ ap (λ v. push_rows v ws) e₂
+    ∙ at_last k₁ a n (λ i. g i ∷ ws) l₁ long₁ ∙ ap (λ v. push_rows v (g n ∷ ws)) e₁
+
 -- The rows behind the parts of A[p U q], by the numbers that they were answered with.
 pub all_until : (k k₁ k₂ k₃ k₄ k₅ k₆ k₇ : Option (List Row)) (p q a b d e f g : ℕ)
     → k₁ ≡ push_row k (coded (NotRow p)) → LastIs k₁ a
