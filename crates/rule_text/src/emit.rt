@@ -1,22 +1,14 @@
 // Adding the rows of a form. The table is absent once there were more than 32 rows.
 ghost use Rattle.std.specs.Prelude.{◌≡◌, [], ◌≢◌};
 ghost use Rattle.tables.specs.Tables.{coded};
-ghost use Rattle.rule_text.specs.Descent.{
-  closing_rows,
-  closing_until,
-  LastIs,
-  next_number,
-  opening_rows,
-  push_row,
-  push_rows,
-  rows_kept,
-};
+ghost use Rattle.rule_text.specs.Descent.{closing_rows, closing_until, LastIs, next_number, opening_rows, push_row, push_rows, rows_kept};
 
 use crate::table::Table;
 use crate::word::{Prefix, Quantifier};
 use tables::row::{Operation, Row};
 
-// Adds a row, or gives the table up where it is full. Answers the number of the row, or 0 where there is none.
+// Adds a row, or gives the table up where it is full.
+// Answers the number of the row, or 0 where there is none.
 pub(crate) fn emit(t: &mut Option<Table>, operation: Operation) -> u8
     ensures rows { rows_kept t.new ≡ push_row (rows_kept t.old) (coded operation) }
     ensures last { LastIs (rows_kept t.new) result }
@@ -42,10 +34,12 @@ pub(crate) fn open_prefix(t: &mut Option<Table>, prefix: Prefix) -> u8
     }
 }
 
-// Adds the rows behind the part of a prefix. `first` is the number of the row before the part, `part` that of its last row.
+// Adds the rows behind the part of a prefix. `first` is the number of the row before the part,
+// `part` that of its last row.
 pub(crate) fn close_prefix(t: &mut Option<Table>, prefix: Prefix, first: u8, part: u8) -> u8
     ensures rows { rows_kept t.new
-        ≡ push_rows (rows_kept t.old) (closing_rows prefix first part (next_number (rows_kept t.old))) }
+        ≡ push_rows (rows_kept t.old)
+        (closing_rows prefix first part (next_number (rows_kept t.old))) }
     ensures last { LastIs (rows_kept t.new) result }
 {
     match prefix {
@@ -74,7 +68,8 @@ pub(crate) fn close_prefix(t: &mut Option<Table>, prefix: Prefix, first: u8, par
 // Adds the rows behind the parts of an until, whose last rows are `p` and `q`.
 pub(crate) fn close_until(t: &mut Option<Table>, quantifier: Quantifier, p: u8, q: u8) -> u8
     ensures rows { rows_kept t.new
-        ≡ push_rows (rows_kept t.old) (closing_until quantifier p q (next_number (rows_kept t.old))) }
+        ≡ push_rows (rows_kept t.old)
+        (closing_until quantifier p q (next_number (rows_kept t.old))) }
     ensures last { LastIs (rows_kept t.new) result }
 {
     match quantifier {

@@ -1,4 +1,5 @@
-// Reading a rule: choice, both and one call each other, as whole rules hold parts and parts hold whole rules.
+// Reading a rule: choice, both and one call each other, as whole rules hold parts and parts hold
+// whole rules.
 ghost use Rattle.rule_text.specs.Descent.{BothRead, ChoiceRead, OneRead, Onward};
 
 use crate::emit::{close_prefix, close_until, emit, open_prefix};
@@ -8,7 +9,8 @@ use crate::table::Table;
 use crate::word::Word;
 use tables::row::Operation;
 
-// A part: a word, a prefix with its part, a rule in brackets, or an until. Answers the number of its last row.
+// A part: a word, a prefix with its part, a rule in brackets, or an until.
+// Answers the number of its last row.
 #[cycle(both_choice_one)]
 fn one(r: &mut Reader, t: &mut Option<Table>, levels: u32) -> Result<u8, Fault>
     ensures on { Onward r.old r.new }

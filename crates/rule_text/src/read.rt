@@ -47,7 +47,9 @@ fn read_table(text: &[u8], conditions: u32) -> Result<Table, Fault>
 // The table of the rule that the text is, for a condition set, or its fault.
 pub fn read_rule<S: ConditionSet>(text: &[u8]) -> Result<Table, Fault>
     ensures answer { Answer S.ConditionSet.count text.now result }
-    ensures means { IfOk result (λ t. (f : Rule) → Reading S.ConditionSet.count text.now (Ok f) → StandsFor (table_rows t) f) }
+    ensures means { IfOk result
+        (λ t. (f : Rule) → Reading S.ConditionSet.count text.now (Ok f)
+        → StandsFor (table_rows t) f) }
     ensures accepted { IfOk result (λ t. accepted S.ConditionSet.count (table_rows t) ≡ true) }
 {
     read_table(text, S::conditions())

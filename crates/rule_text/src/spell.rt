@@ -1,15 +1,6 @@
 // Telling words apart.
 ghost use Rattle.std.specs.Prelude.{◌≡◌, ℕ, ◌≤◌, min, Some, None, MatchOption};
-ghost use Rattle.rule_text.specs.Words.{
-  named_word,
-  number_below,
-  number_from,
-  number_of,
-  one_byte,
-  tested,
-  two_letters,
-  word_of,
-};
+ghost use Rattle.rule_text.specs.Words.{named_word, number_below, number_from, number_of, one_byte, tested, two_letters, word_of};
 
 use crate::fault::FaultKind;
 use crate::word::{Prefix, Quantifier, Word};

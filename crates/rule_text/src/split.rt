@@ -11,7 +11,8 @@ fn find_from<P: Fn(u8) -> bool>(text: &[u8], at: usize, test: P) -> usize
     requires callable { P.IsAlwaysCallable test }
     ensures from { at ≤ result }
     ensures within { result ≤ length text.now }
-    ensures before { (k : ℕ) → at + k < result → P.post test (slice_index text.now (at + k)) false }
+    ensures before { (k : ℕ) → at + k < result
+        → P.post test (slice_index text.now (at + k)) false }
     ensures found { result < length text.now → P.post test (slice_index text.now result) true }
 {
     text[at..]
@@ -26,7 +27,7 @@ pub(crate) fn skip_spaces(text: &[u8], at: usize) -> usize
     ensures from { at ≤ result }
     ensures within { result ≤ length text.now }
     ensures same { words_from at (drop at text.now) ≡ words_from result (drop result text.now) }
-    ensures next { result < length text.now → slice_index text.now result ≢ 32 }
+    ensures next { result < length text.now → slice_index text.now result ≢ SPACE }
 {
     find_from(text, at, |b| b != SPACE)
 }
@@ -34,7 +35,7 @@ pub(crate) fn skip_spaces(text: &[u8], at: usize) -> usize
 // Where the word that begins at `at` ends.
 pub(crate) fn word_end(text: &[u8], at: usize) -> usize
     requires within { at < length text.now }
-    requires no_space { slice_index text.now at ≢ 32 }
+    requires no_space { slice_index text.now at ≢ SPACE }
     ensures from { at < result }
     ensures within { result ≤ length text.now }
     ensures word { words_from at (drop at text.now)
