@@ -1,7 +1,7 @@
 use Rattle.std.proofs.Common.{◌^◌, ◌<◌, take}
 use Rattle.plan.specs.Reading.{Each, IsRuleText}
 use Rattle.plan.specs.Writing.{lent}
-use Rattle.plan.proofs.write.bad_text.Given as goal
+use Rattle.plan.proofs.write.check_texts.Given as goal
 
 abbrev pub invariant-loop-number : goal.invariant-loop-number
 invariant-loop-number l =

@@ -2,7 +2,7 @@ use Rattle.std.proofs.Common.{◌≡◌, ◌+◌, ◌-◌, ◌*◌, ◌≤◌}
 use Rattle.plan.specs.Contents.{rule_byte, rule_count}
 use Rattle.plan.specs.Format.{rules_start}
 use Rattle.plan.specs.Shape.{lengths_fault}
-use Rattle.plan.proofs.shape.rules_fault.Given as goal
+use Rattle.plan.proofs.shape.check_rules.Given as goal
 
 -- The rules before this one have their lengths in the file, at most 200.
 abbrev pub invariant-loop-rule : goal.invariant-loop-rule

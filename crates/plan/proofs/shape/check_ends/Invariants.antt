@@ -1,7 +1,7 @@
 use Rattle.std.proofs.Common.{◌≡◌, ◌-◌}
 use Rattle.plan.specs.Contents.{binding_byte, binding_count}
 use Rattle.plan.specs.Shape.{ends_fault}
-use Rattle.plan.proofs.shape.ends_fault.Given as goal
+use Rattle.plan.proofs.shape.check_ends.Given as goal
 
 -- The bindings before this one have their ends among the places.
 abbrev pub invariant-loop-binding : goal.invariant-loop-binding

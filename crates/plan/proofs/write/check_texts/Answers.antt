@@ -1,7 +1,7 @@
 use Rattle.std.proofs.Common.{◌^◌, ◌<◌}
 use Rattle.plan.specs.Reading.{Each, IsRuleText}
 use Rattle.plan.proofs.Lent.{lent_nth, each_lent_more, each_lent_all}
-use Rattle.plan.proofs.write.bad_text.Goals as goal
+use Rattle.plan.proofs.write.check_texts.Goals as goal
 
 pub returns-in-Err : goal.returns-in-Err
 returns-in-Err c = record {
