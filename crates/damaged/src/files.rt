@@ -94,15 +94,10 @@ static LONGEST: [Part; 5] = [
 static LONG_RULE: [Part; 2] = [Part(1, b"\xC8\0yes"), Part(197, b" ")];
 
 fn push_parts(file: &mut Vec<u8>, parts: &[Part]) -> Result<(), AllocError> {
-    for part in parts.iter() {
-        push_times(file, part.0, part.1)?;
-    }
-    Ok(())
-}
-
-fn push_times(file: &mut Vec<u8>, times: usize, bytes: &[u8]) -> Result<(), AllocError> {
-    for _ in 0..times {
-        file.extend_from_slice(bytes)?;
+    for Part(times, bytes) in parts {
+        for _ in 0..*times {
+            file.extend_from_slice(bytes)?;
+        }
     }
     Ok(())
 }

@@ -5,13 +5,16 @@
 mod case;
 mod cases;
 mod files;
-mod tally;
 mod trial;
 
-use anyhow::anyhow;
+use anyhow::ensure;
 use cases::{fields, orders, texts, whole};
-use tally::Tally;
+use std::io;
+use tallies::tally::Tally;
 use trial::try_cases;
+
+// The numbers of the refusals.
+const REFUSALS: [u8; 9] = [1, 2, 3, 4, 5, 6, 7, 8, 9];
 
 fn try_fields(rt: &HostRuntime, tally: &mut Tally) -> anyhow::Result<()> {
     try_cases(rt, "cut", &fields::CUT, tally)?;
@@ -32,19 +35,29 @@ fn try_orders(rt: &HostRuntime, tally: &mut Tally) -> anyhow::Result<()> {
     try_cases(rt, "orders, texts", &orders::TEXTS, tally)
 }
 
+// Prints a line for each count.
+fn print_counts(rt: &impl Print, tally: &Tally) -> io::Result<()> {
+    tally.print_refused(rt)?;
+    println!(rt; "not refused: {}", tally.accepted())?;
+    println!(rt;
+        "{} files, {} differences",
+        tally.total(),
+        tally.differences()
+    )
+}
+
 fn run(rt: &HostRuntime) -> anyhow::Result<()> {
-    let mut tally = Tally::new();
+    let mut tally = Tally::new(rt.alloc(), &REFUSALS)?;
     try_cases(rt, "whole", &whole::WHOLE, &mut tally)?;
     try_fields(rt, &mut tally)?;
     try_cases(rt, "texts", &texts::TEXTS, &mut tally)?;
     try_orders(rt, &mut tally)?;
-    tally.print(rt)?;
-    if tally.untried() {
-        return Err(anyhow!("some refusal never came"));
-    }
-    if tally.differs() {
-        return Err(anyhow!("what was printed differs from what was expected"));
-    }
+    print_counts(rt, &tally)?;
+    ensure!(tally.is_complete(), "some refusal never came");
+    ensure!(
+        tally.differences() == 0,
+        "what was printed differs from what was expected"
+    );
     Ok(())
 }
 

@@ -1,27 +1,23 @@
 // Writing an example by the library, and comparing it with its file.
 use crate::example::Example;
-use anyhow::anyhow;
+use anyhow::{Context, bail};
 use conditions::word::Word;
 use plan::oversize::LONGEST;
 use plan::write::write_plan;
 use report::file::report;
 use routing::binding::Binding;
 use routing::site::SiteTable;
-use routing::site::table::OpenedSite;
 use std::alloc::Global;
-use std::{fs, io};
+use std::{fs, str};
 
 // Writes a plan to the front of `file`; answers how many bytes, where the records are a plan.
-fn write_records<'a>(
-    marks: &'a [u32],
-    records: &'a [Binding<Word>],
+fn write_records(
+    marks: &[u32],
+    records: &[Binding<Word>],
     rules: &[&[u8]],
     file: &mut [u8],
 ) -> Option<usize> {
-    let OpenedSite { site, refusal } = SiteTable::opened(marks, records);
-    if refusal.is_some() {
-        return None;
-    }
+    let site = SiteTable::open(marks, records).ok()?;
     write_plan(&site, rules, file).ok()
 }
 
@@ -29,24 +25,18 @@ fn write_records<'a>(
 pub fn written(heap: Global, example: &Example) -> anyhow::Result<Vec<u8>> {
     let records = example.records(heap)?;
     let mut file = vec![in heap; 0u8; LONGEST]?;
-    match write_records(example.marks, &records, example.rules, &mut file) {
-        Some(length) => file.truncate(length),
-        None => return Err(anyhow!("the records are no plan")),
-    }
+    let length = write_records(example.marks, &records, example.rules, &mut file).context(
+        "the records are no plan",
+    )?;
+    file.truncate(length);
     Ok(file)
 }
 
 // Prints the report of a file, each line indented.
-fn print_report(rt: &impl Print, file: &[u8]) -> io::Result<()> {
+fn print_report(rt: &impl Print, file: &[u8]) -> anyhow::Result<()> {
     let report = report(file);
-    let mut begins = true;
-    for byte in report.text().iter() {
-        if begins {
-            print!(rt; "  ")?;
-        }
-        let c = char::from(*byte);
-        print!(rt; "{c}")?;
-        begins = *byte == b'\n';
+    for line in str::from_utf8(report.text())?.lines() {
+        println!(rt; "  {line}")?;
     }
     Ok(())
 }
@@ -57,11 +47,10 @@ pub fn check_example(rt: &HostRuntime, example: &Example) -> anyhow::Result<()> 
     let kept = fs::read(rt, example.path(rt.alloc())?)?;
     let name = example.name;
     let length = file.len();
-    if file.as_slice() != kept.as_slice() {
+    if file != kept {
         println!(rt; "{name}: {length} bytes, and the file has others")?;
-        return Err(anyhow!("a plan differs from its file"));
+        bail!("a plan differs from its file");
     }
     println!(rt; "{name}: {length} bytes, as the file has them")?;
-    print_report(rt, kept.as_slice())?;
-    Ok(())
+    print_report(rt, &kept)
 }

@@ -7,6 +7,16 @@ use std::alloc::{AllocError, Global};
 #[derive(Clone, Copy)]
 pub struct Forwards(pub u16, pub u16, pub u64);
 
+impl From<Forwards> for Binding<Word> {
+    fn from(Forwards(from, to, settings): Forwards) -> Binding<Word> {
+        Binding {
+            from,
+            to,
+            set: Word(settings),
+        }
+    }
+}
+
 // The words of the settings with a condition on.
 pub const C0: u64 = 0xAAAA_AAAA_AAAA_AAAA;
 
@@ -36,20 +46,15 @@ pub struct Example {
 impl Example {
     // The path of its file in the folder data/, in which the program is run.
     pub fn path(&self, heap: Global) -> Result<String, AllocError> {
-        let name = self.name;
-        format!(in heap; "{name}.plan")
+        format!(in heap; "{}.plan", self.name)
     }
 
     // Its bindings as a site table takes them.
     pub fn records(&self, heap: Global) -> Result<Vec<Binding<Word>>, AllocError> {
-        let mut records = Vec::new(heap);
-        for Forwards(from, to, set) in self.bindings.iter() {
-            records.push(Binding {
-                from: *from,
-                to: *to,
-                set: Word(*set),
-            })?;
-        }
-        Ok(records)
+        self.bindings
+            .iter()
+            .copied()
+            .map(Binding::from)
+            .collect(heap)
     }
 }

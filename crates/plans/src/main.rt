@@ -20,21 +20,21 @@ fn write_example(rt: &HostRuntime, example: &Example) -> anyhow::Result<()> {
 
 // Whether the first argument is `--write`.
 fn is_to_write(rt: &HostRuntime) -> anyhow::Result<bool> {
-    for (number, argument) in env::args(rt)?.enumerate() {
-        if number == 1 {
-            return Ok(argument.as_str() == "--write");
-        }
-    }
-    Ok(false)
+    let first = env::args(rt)?.nth(1);
+    Ok(first.is_some_and(|argument| argument.as_str() == "--write"))
 }
 
 fn run(rt: &HostRuntime) -> anyhow::Result<()> {
+    let examples = [trial::example(), warehouse::example()];
     if is_to_write(rt)? {
-        write_example(rt, &trial::example())?;
-        write_example(rt, &warehouse::example())?;
+        for example in &examples {
+            write_example(rt, example)?;
+        }
     }
-    check_example(rt, &trial::example())?;
-    check_example(rt, &warehouse::example())
+    for example in &examples {
+        check_example(rt, example)?;
+    }
+    Ok(())
 }
 
 fn main(rt: HostRuntime) -> anyhow::Result<()> {

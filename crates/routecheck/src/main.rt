@@ -11,52 +11,83 @@ use routing::refusal::Refusal;
 use routing::site::SiteTable;
 use samples::networks;
 use std::io;
-use tables::row::Row;
-use verdicts::site::judge_site;
-use verdicts::verdict::Verdict;
+use tables::row::{Operation, Row};
+use tables::table::read_row;
+use verdicts::entries::judge_entries;
+use verdicts::verdict::{Judgement, Verdict};
 
-// The row whose route breaks an A form: the rule is "not p", and p is a row of operation 6, 7 or 8.
+// A route from an entry: the steps at the front of the list, and how it ends.
+#[derive(Clone, Copy)]
+struct Route {
+    steps: [RouteStep; 4],
+    shown: Shown,
+}
+
+// What is found of a rule: the judgement, and a route that breaks the rule, if one is shown.
+#[derive(Clone, Copy)]
+struct Found {
+    judgement: Judgement,
+    route: Option<Route>,
+}
+
+// The operation of a row of a table.
+fn operation(table: &[Row], row: usize) -> Option<Operation> {
+    read_row(*table.get(row)?, row, Word::conditions())
+}
+
+// The row whose route breaks an A form: the rule is "not p", and p is about a step or a route.
 fn breaking_row(table: &[Row]) -> Option<usize> {
-    let rule = table.last()?;
-    let row = rule.first as usize;
-    if rule.operation != 3 || row >= table.len() {
+    let Operation::Not(p) = operation(table, table.len().checked_sub(1)?)? else {
         return None;
-    }
-    match table[row].operation {
-        6 | 7 | 8 => Some(row),
+    };
+    let row = usize::from(p);
+    match operation(table, row)? {
+        Operation::Next(_) | Operation::Until(_, _) | Operation::Always(_) => Some(row),
         _ => None,
     }
 }
 
-// Opens a site table on the lent lists and asks it for a route.
-fn site_route<'a, S: ConditionSet>(
-    marks: &'a [u32],
-    records: &'a [Binding<S>],
+// The route of a row at a position of the network.
+fn shown_route(
+    site: &SiteTable<'_, Word>,
     table: &[Row],
     row: usize,
     at: RouteStep,
-    main: &mut [S],
-    spare: &mut [S],
-    steps: &mut [RouteStep],
-) -> Result<Shown, Refusal> {
-    match SiteTable::open(marks, records) {
-        Ok(site) => route(&site, table, row, at, main, spare, steps),
-        Err(refusal) => Err(refusal),
-    }
+) -> Result<Route, Refusal> {
+    let mut main = [Word(0); 96];
+    let mut spare = [Word(0); 6];
+    let mut steps = [at; 4];
+    let shown = route(site, table, row, at, &mut main, &mut spare, &mut steps)?;
+    Ok(Route { steps, shown })
+}
+
+// Judges a rule at the entries of a network.
+fn find(marks: &[u32], records: &[Binding<Word>], table: &[Row]) -> Result<Found, Refusal> {
+    let site = SiteTable::open(marks, records)?;
+    let mut main = [Word(0); 96];
+    let mut spare = [Word(0); 6];
+    let judgement = judge_entries(&site, table, &mut main, &mut spare)?;
+    let route = match (judgement.verdict, breaking_row(table)) {
+        (Verdict::Breaks(place, setting), Some(row)) => {
+            shown_route(&site, table, row, RouteStep { place, setting }).ok()
+        }
+        _ => None,
+    };
+    Ok(Found { judgement, route })
 }
 
 // Prints the places and settings hop by hop, and how the route ends.
-fn print_route(rt: &impl Print, steps: &[RouteStep], shown: Shown) -> io::Result<()> {
-    for (number, step) in steps.iter().take(shown.count).enumerate() {
-        let place = step.place;
-        let setting = step.setting;
-        if number == 0 {
-            print!(rt; "  an order comes in at place {place} under setting {setting}")?;
+fn print_route(rt: &impl Print, route: &Route) -> io::Result<()> {
+    let steps = route.steps.iter().take(route.shown.count);
+    for (number, RouteStep { place, setting }) in steps.enumerate() {
+        let front = if number == 0 {
+            "  an order comes in at"
         } else {
-            print!(rt; ", goes to place {place} under setting {setting}")?;
-        }
+            ", goes to"
+        };
+        print!(rt; "{front} place {place} under setting {setting}")?;
     }
-    match shown.ending {
+    match route.shown.ending {
         Ending::Reaches => println!(rt; ", and breaks the rule there"),
         Ending::Rests => println!(rt; ", and rests there"),
         Ending::Returns(number) => println!(rt;
@@ -65,44 +96,32 @@ fn print_route(rt: &impl Print, steps: &[RouteStep], shown: Shown) -> io::Result
     }
 }
 
-// Prints the verdict on one rule: `N holds ROUNDS`, `N breaks PLACE SETTING ROUNDS` or `refused NUMBER`.
-fn print_verdict(
+// Prints the verdict on a rule: `N holds ROUNDS` or `N breaks PLACE SETTING ROUNDS`.
+fn print_found(rt: &impl Print, number: usize, found: &Found) -> io::Result<()> {
+    let rounds = found.judgement.rounds;
+    match found.judgement.verdict {
+        Verdict::Holds => println!(rt; "{number} holds {rounds}")?,
+        Verdict::Breaks(place, setting) => println!(rt;
+            "{number} breaks {place} {setting} {rounds}"
+        )?,
+    }
+    match &found.route {
+        Some(route) => print_route(rt, route),
+        None => Ok(()),
+    }
+}
+
+// Prints what is found of a rule, or `refused NUMBER`.
+fn print_rule(
     rt: &impl Print,
     number: usize,
     marks: &[u32],
     records: &[Binding<Word>],
     table: &[Row],
 ) -> io::Result<()> {
-    let mut main = [Word(0); 96];
-    let mut spare = [Word(0); 6];
-    let mut steps = [RouteStep {
-        place: 0,
-        setting: 0,
-    }; 4];
-    match judge_site(marks, records, table, &mut main, &mut spare) {
-        Ok(judgement) => {
-            let rounds = judgement.rounds;
-            match judgement.verdict {
-                Verdict::Holds => println!(rt; "{number} holds {rounds}"),
-                Verdict::Breaks(place, setting) => {
-                    println!(rt; "{number} breaks {place} {setting} {rounds}")?;
-                    let Some(row) = breaking_row(table) else {
-                        return Ok(());
-                    };
-                    let at = RouteStep { place, setting };
-                    match site_route(
-                        marks, records, table, row, at, &mut main, &mut spare, &mut steps,
-                    ) {
-                        Ok(shown) => print_route(rt, &steps, shown),
-                        Err(_) => Ok(()),
-                    }
-                }
-            }
-        }
-        Err(refusal) => {
-            let code = refusal.number();
-            println!(rt; "refused {code}")
-        }
+    match find(marks, records, table) {
+        Ok(found) => print_found(rt, number, &found),
+        Err(refusal) => println!(rt; "refused {}", refusal.number()),
     }
 }
 
@@ -111,13 +130,19 @@ fn main(rt: HostRuntime) -> io::Result<()> {
         "Network P: 0 (mark 0) to 1 (mark 1) while c0 is on. Rules: 0 AF m1, 1 EF m1 | !c0"
     )?;
     let (marks, records) = (networks::p_marks(), networks::p_bindings());
-    print_verdict(&rt, 0, &marks, &records, &networks::AF_M1)?;
-    print_verdict(&rt, 1, &marks, &records, &networks::EF_M1_OR_NOT_C0)?;
+    print_rule(&rt, 0, &marks, &records, &networks::AF_M1.map(Row::from))?;
+    print_rule(
+        &rt,
+        1,
+        &marks,
+        &records,
+        &networks::EF_M1_OR_NOT_C0.map(Row::from),
+    )?;
     println!(rt;
         "Network L: 0 (mark 0) to 1 always, 1 to 2 (mark 1) while c0 is on, 1 to 0 while it is off. Rules: 0 AF m1, 1 AG EF m1, 2 EF m1"
     )?;
     let (marks, records) = (networks::l_marks(), networks::l_bindings());
-    print_verdict(&rt, 0, &marks, &records, &networks::AF_M1)?;
-    print_verdict(&rt, 1, &marks, &records, &networks::AG_EF_M1)?;
-    print_verdict(&rt, 2, &marks, &records, &networks::EF_M1)
+    print_rule(&rt, 0, &marks, &records, &networks::AF_M1.map(Row::from))?;
+    print_rule(&rt, 1, &marks, &records, &networks::AG_EF_M1.map(Row::from))?;
+    print_rule(&rt, 2, &marks, &records, &networks::EF_M1.map(Row::from))
 }

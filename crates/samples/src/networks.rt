@@ -4,7 +4,7 @@ ghost use Rattle.samples.specs.Networks.{p_marks, p_records, l_marks, l_records}
 
 use conditions::word::Word;
 use routing::binding::Binding;
-use tables::row::Row;
+use tables::row::Operation;
 
 // P: place 0 has mark 0, place 1 has mark 1.
 pub fn p_marks() -> [u32; 2]
@@ -56,117 +56,33 @@ pub fn l_bindings() -> [Binding<Word>; 3]
 }
 
 // AF m1: m1, not, some route keeps to it, not.
-pub const AF_M1: [Row; 4] = [
-    Row {
-        operation: 1,
-        first: 1,
-        second: 0,
-    },
-    Row {
-        operation: 3,
-        first: 0,
-        second: 0,
-    },
-    Row {
-        operation: 8,
-        first: 1,
-        second: 0,
-    },
-    Row {
-        operation: 3,
-        first: 2,
-        second: 0,
-    },
+pub const AF_M1: [Operation; 4] = [
+    Operation::Mark(1),
+    Operation::Not(0),
+    Operation::Always(1),
+    Operation::Not(2),
 ];
 
 // EF m1: yes until m1.
-pub const EF_M1: [Row; 3] = [
-    Row {
-        operation: 0,
-        first: 0,
-        second: 0,
-    },
-    Row {
-        operation: 1,
-        first: 1,
-        second: 0,
-    },
-    Row {
-        operation: 7,
-        first: 0,
-        second: 1,
-    },
-];
+pub const EF_M1: [Operation; 3] = [Operation::Yes, Operation::Mark(1), Operation::Until(0, 1)];
 
 // EF m1 | !c0.
-pub const EF_M1_OR_NOT_C0: [Row; 6] = [
-    Row {
-        operation: 0,
-        first: 0,
-        second: 0,
-    },
-    Row {
-        operation: 1,
-        first: 1,
-        second: 0,
-    },
-    Row {
-        operation: 7,
-        first: 0,
-        second: 1,
-    },
-    Row {
-        operation: 2,
-        first: 0,
-        second: 0,
-    },
-    Row {
-        operation: 3,
-        first: 3,
-        second: 0,
-    },
-    Row {
-        operation: 5,
-        first: 2,
-        second: 4,
-    },
+pub const EF_M1_OR_NOT_C0: [Operation; 6] = [
+    Operation::Yes,
+    Operation::Mark(1),
+    Operation::Until(0, 1),
+    Operation::Condition(0),
+    Operation::Not(3),
+    Operation::Or(2, 4),
 ];
 
 // AG EF m1: not (yes until not EF m1).
-pub const AG_EF_M1: [Row; 7] = [
-    Row {
-        operation: 0,
-        first: 0,
-        second: 0,
-    },
-    Row {
-        operation: 0,
-        first: 0,
-        second: 0,
-    },
-    Row {
-        operation: 1,
-        first: 1,
-        second: 0,
-    },
-    Row {
-        operation: 7,
-        first: 1,
-        second: 2,
-    },
-    Row {
-        operation: 3,
-        first: 3,
-        second: 0,
-    },
-    Row {
-        operation: 7,
-        first: 0,
-        second: 4,
-    },
-    Row {
-        operation: 3,
-        first: 5,
-        second: 0,
-    },
+pub const AG_EF_M1: [Operation; 7] = [
+    Operation::Yes,
+    Operation::Yes,
+    Operation::Mark(1),
+    Operation::Until(1, 2),
+    Operation::Not(3),
+    Operation::Until(0, 4),
+    Operation::Not(5),
 ];

@@ -2,6 +2,7 @@
 use crate::networks;
 use conditions::word::Word;
 use routing::binding::Binding;
+use routing::refusal::Refusal;
 use std::process::Abort;
 use std::test::Fail;
 use tables::row::Row;
@@ -30,7 +31,7 @@ fn trial_network_p(rt: HostRuntime) -> Result<(), Fail> {
         &rt,
         &networks::p_marks(),
         &networks::p_bindings(),
-        &networks::AF_M1,
+        &networks::AF_M1.map(Row::from),
         Verdict::Breaks(0, 0),
         1,
     )?;
@@ -38,7 +39,7 @@ fn trial_network_p(rt: HostRuntime) -> Result<(), Fail> {
         &rt,
         &networks::p_marks(),
         &networks::p_bindings(),
-        &networks::EF_M1_OR_NOT_C0,
+        &networks::EF_M1_OR_NOT_C0.map(Row::from),
         Verdict::Holds,
         1,
     )
@@ -50,7 +51,7 @@ fn trial_network_l(rt: HostRuntime) -> Result<(), Fail> {
         &rt,
         &networks::l_marks(),
         &networks::l_bindings(),
-        &networks::AF_M1,
+        &networks::AF_M1.map(Row::from),
         Verdict::Breaks(0, 0),
         1,
     )?;
@@ -58,7 +59,7 @@ fn trial_network_l(rt: HostRuntime) -> Result<(), Fail> {
         &rt,
         &networks::l_marks(),
         &networks::l_bindings(),
-        &networks::AG_EF_M1,
+        &networks::AG_EF_M1.map(Row::from),
         Verdict::Holds,
         3,
     )?;
@@ -66,7 +67,7 @@ fn trial_network_l(rt: HostRuntime) -> Result<(), Fail> {
         &rt,
         &networks::l_marks(),
         &networks::l_bindings(),
-        &networks::EF_M1,
+        &networks::EF_M1.map(Row::from),
         Verdict::Holds,
         3,
     )
@@ -74,21 +75,16 @@ fn trial_network_l(rt: HostRuntime) -> Result<(), Fail> {
 
 // A list that is too short is refused, and nothing is written.
 #[test]
-fn short_list(rt: HostRuntime) -> Result<(), Fail> {
+fn short_list(rt: HostRuntime) {
     let mut main = [Word(7); 11];
     let mut spare = [Word(0); 6];
-    match judge_site(
+    let judged = judge_site(
         &networks::l_marks(),
         &networks::l_bindings(),
-        &networks::AF_M1,
+        &networks::AF_M1.map(Row::from),
         &mut main,
         &mut spare,
-    ) {
-        Ok(_) => Err(Fail::new("not refused")),
-        Err(refusal) => {
-            assert_eq!(rt; refusal.number(), 14);
-            assert_eq!(rt; main[0].0, 7);
-            Ok(())
-        }
-    }
+    );
+    assert_eq!(rt; judged.err(), Some(Refusal::TooShort));
+    assert_eq!(rt; main[0].0, 7);
 }

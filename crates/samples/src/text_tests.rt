@@ -6,7 +6,7 @@ use rule_text::read::read_rule;
 fn code(text: &[u8]) -> usize {
     match read_rule::<Word>(text) {
         Ok(table) => table.rows().len(),
-        Err(fault) => (fault.number() as usize) * 1000 + fault.byte.min(999),
+        Err(fault) => usize::from(fault.number()) * 1000 + fault.byte.min(999),
     }
 }
 

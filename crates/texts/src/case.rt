@@ -1,4 +1,5 @@
 // Texts with what reading them must give.
+use std::fmt;
 
 // What a text must give.
 #[derive(Clone, Copy)]
@@ -7,6 +8,15 @@ pub enum Expected {
     Rows(&'static str),
     // The refusal of this number at this byte.
     Refused(u8, usize),
+}
+
+impl fmt::Display for Expected {
+    fn fmt<W: fmt::Write>(&self, f: &mut fmt::Formatter<W>) -> fmt::Result {
+        match self {
+            Expected::Rows(rows) => write!(f, "{rows}"),
+            Expected::Refused(number, byte) => write!(f, "refused {number} at byte {byte}"),
+        }
+    }
 }
 
 // A text, written out.

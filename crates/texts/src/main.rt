@@ -4,15 +4,18 @@
 
 mod case;
 mod cases;
-mod tally;
 mod trial;
 
-use anyhow::anyhow;
+use anyhow::ensure;
 use cases::{built, damaged, plain, valid};
 use conditions::plain::Plain;
 use conditions::word::Word;
-use tally::Tally;
+use std::io;
+use tallies::tally::Tally;
 use trial::{try_built, try_cases};
+
+// The numbers of the refusals.
+const REFUSALS: [u8; 6] = [1, 2, 3, 4, 5, 9];
 
 fn try_valid(rt: &HostRuntime, tally: &mut Tally) -> anyhow::Result<()> {
     try_cases::<Word>(rt, &valid::FORMS, tally)?;
@@ -34,19 +37,26 @@ fn try_limits(rt: &HostRuntime, tally: &mut Tally) -> anyhow::Result<()> {
     try_built::<Word>(rt, &built::BYTES, tally)
 }
 
+// Prints a line for each count.
+fn print_counts(rt: &impl Print, tally: &Tally) -> io::Result<()> {
+    println!(rt; "texts: {}", tally.total())?;
+    println!(rt; "valid: {}", tally.accepted())?;
+    tally.print_refused(rt)?;
+    println!(rt; "differences: {}", tally.differences())
+}
+
 fn run(rt: &HostRuntime) -> anyhow::Result<()> {
-    let mut tally = Tally::new();
+    let mut tally = Tally::new(rt.alloc(), &REFUSALS)?;
     try_valid(rt, &mut tally)?;
     try_damaged(rt, &mut tally)?;
     try_limits(rt, &mut tally)?;
     try_cases::<Plain>(rt, &plain::PLAIN, &mut tally)?;
-    tally.print(rt)?;
-    if tally.untried() {
-        return Err(anyhow!("some refusal never came"));
-    }
-    if tally.differs() {
-        return Err(anyhow!("what was read differs from what was expected"));
-    }
+    print_counts(rt, &tally)?;
+    ensure!(tally.is_complete(), "some refusal never came");
+    ensure!(
+        tally.differences() == 0,
+        "what was read differs from what was expected"
+    );
     Ok(())
 }
 
