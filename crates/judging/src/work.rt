@@ -42,7 +42,8 @@ fn write_condition<S: ConditionSet>(part: &mut [S], k: u8)
 fn write_rests<N: Network>(net: &N, part: &mut [N::Set], out: &mut [N::Set])
     requires part { PerPlace (N.meaning net.now) part.old }
     requires out { PerPlace (N.meaning net.now) out.old }
-    ensures { Decided (N.meaning net.now) (covers N.Set.ConditionSet.holds out.new) (Rests (N.meaning net.now)) }
+    ensures { Decided (N.meaning net.now)
+        (covers N.Set.ConditionSet.holds out.new) (Rests (N.meaning net.now)) }
 {
     fill(part, N::Set::all());
     steps_into(net, part, out);
@@ -155,7 +156,8 @@ pub(crate) fn judge_row<N: Network>(
     requires room { row * places (N.meaning net.now) + places (N.meaning net.now) ≤ length main.old }
     requires halves { 2 * places (N.meaning net.now) ≤ length spare.old }
     ensures few { result ≤ places (N.meaning net.now) }
-    ensures before { take (row * places (N.meaning net.now)) main.new ≡ take (row * places (N.meaning net.now)) main.old }
+    ensures before { take (row * places (N.meaning net.now)) main.new
+        ≡ take (row * places (N.meaning net.now)) main.old }
     ensures behind { drop (row * places (N.meaning net.now) + places (N.meaning net.now)) main.new
         ≡ drop (row * places (N.meaning net.now) + places (N.meaning net.now)) main.old }
     ensures written { Decided (N.meaning net.now)
