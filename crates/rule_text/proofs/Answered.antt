@@ -17,7 +17,7 @@ use Rattle.rule_text.specs.Reading.{Answer, Reading, table_rows}
 use Rattle.std.specs.Option.{ok_or}
 use Rattle.rule_text.proofs.Accepts.{begin}
 use Rattle.rule_text.proofs.Emitted.{push_some}
-use Rattle.rule_text.proofs.Steps.{at_none, stuck}
+use Rattle.rule_text.proofs.Steps.{parser, at_none, stuck}
 use Rattle.rule_text.proofs.Verdict.{rowed, reading_of}
 
 module _ (K : ℕ) (text : List ℕ) (short : length text ≤ 200) where
@@ -69,11 +69,11 @@ push_over (w ∷ ws) rows e l = go (ltb (length rows) 32) refl (push_over ws (ro
 -- The whole text is read.
 module _ (K : ℕ) (text : List ℕ) (short : length text ≤ 200) (b d : Reader) (t u : Option Table) (r : ℕ)
     (unread_is : items K text 0 ≡ unread b) (ends : end_of b ≡ length text) (ends' : end_of d ≡ length text) where
-  pub choice_bad : (e : Fault) → ChoiceRead 32 b d t u (Err e) → Reading K text (Err e)
+  pub choice_bad : (e : Fault) → ChoiceRead 32 (parser b t) (parser d u) (Err e) → Reading K text (Err e)
   choice_bad e reads =
       refused K text short e (ap (λ is. outcome (length text) is begin) unread_is ∙ ap (λ i. outcome i (unread b) begin) (sym ends) ∙ reads nothing refl)
 
-  module _ (reads : ChoiceRead 32 b d t u (Ok r)) where
+  module _ (reads : ChoiceRead 32 (parser b t) (parser d u) (Ok r)) where
     to_end : outcome (length text) (items K text 0) begin ≡ outcome (length text) (unread d) (behind_part reads.0 reads.1 nothing)
     to_end =
         ap (λ is. outcome (length text) is begin) unread_is ∙ ap (λ i. outcome i (unread b) begin) (sym ends)

@@ -3,6 +3,8 @@ use Rattle.std.proofs.Common.{IsErrAnd, ◌≡◌, ℕ, ◌+◌, ◌<◌, true, 
 use Rattle.rule_text.specs.declared.fault.Fault.{Fault}
 use Rattle.rule_text.specs.declared.fault.FaultKind.TheVariants.{CannotFollow}
 use Rattle.rule_text.specs.declared.reader.Reader.{Reader}
+use Rattle.rule_text.specs.declared.parse.Parser.{Parser}
+use Rattle.rule_text.specs.declared.table.Table.{Table}
 use Rattle.rule_text.specs.declared.word.Word.{Word}
 use Rattle.rule_text.specs.Faults.{fault}
 use Rattle.std.proofs.lemmas.Result.{err_from_is_err_and}
@@ -13,6 +15,9 @@ use Rattle.rule_text.specs.declared.word.Quantifier.{Quantifier}
 use Rattle.rule_text.specs.declared.word.Word.TheVariants.{Yes, Mark, Condition, Before, Routes, Until, And, Or, Open, Close, OpenSquare, CloseSquare}
 use Rattle.rule_text.specs.Levels.{has_level}
 use Rattle.rule_text.specs.Descent.{items, left, unread, end_of, Onward, Stepped, Fails, Took, Missed, another, faulty, Takes, Enters, Around, inside, bracket, until_first, until_second, State, before_part, before_square, behind_part, next_state, depth, levels_at, rule_read, at_end, moved, outcome}
+
+abbrev pub parser : Reader → Option Table → Parser
+parser r t = record { reader = r; table = t }
 
 -- The exit of a `?`.
 pub left_with : {T : Type 0} (P : Result T Fault → Type 0) (r : Result T Fault) (e : Fault) → IsErrAnd r (λ y. y ≡ e) → P (Err e) → P r

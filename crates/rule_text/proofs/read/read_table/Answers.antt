@@ -16,18 +16,18 @@ returns-in_err-advance c =
 pub returns-in_err-choice : goal.returns-in_err-choice
 returns-in_err-choice c =
     left_with (Answer c.args.conditions c.args.text.now) c.from_residual-in_err-choice.result c.in_err-choice.field-0.0 c.from_residual-in_err-choice.ensures.1
-    (choice_bad c.args.conditions c.args.text.now (omega arith) c.advance.new.self c.choice.new.r c.choice.new.t c.choice.new.t 0 c.in_ok-advance.ensures.step.reads (ap (λ x. length x.now) c.advance.ensures.on.text_same) (ap (λ x. length x.now) (c.choice.ensures.on.text_same ∙ c.advance.ensures.on.text_same)) c.in_err-choice.field-0.0 c.in_err-choice.ensures.reads)
+    (choice_bad c.args.conditions c.args.text.now (omega arith) c.advance.new.self c.choice.new.self.reader c.choice.new.self.table c.choice.new.self.table 0 c.in_ok-advance.ensures.step.reads (ap (λ x. length x.now) c.advance.ensures.on.text_same) (ap (λ x. length x.now) (c.choice.ensures.on.text_same ∙ c.advance.ensures.on.text_same)) c.in_err-choice.field-0.0 c.in_err-choice.ensures.reads)
 
 pub returns-then-is_some : goal.returns-then-is_some
 returns-then-is_some c =
-    let word = some_word c.choice.new.r.word (sym c.if-is_some.ensures) in
+    let word = some_word c.choice.new.self.reader.word (sym c.if-is_some.ensures) in
     subst (λ e. Reading c.args.conditions c.args.text.now (Err e)) (sym c.unfit.ensures)
-    (more_words c.args.conditions c.args.text.now (omega arith) c.advance.new.self c.choice.new.r _ c.choice.new.t c.in_ok-choice.field-0 c.in_ok-advance.ensures.step.reads (ap (λ x. length x.now) c.advance.ensures.on.text_same) (ap (λ x. length x.now) (c.choice.ensures.on.text_same ∙ c.advance.ensures.on.text_same)) c.in_ok-choice.ensures.reads word.0 word.1)
+    (more_words c.args.conditions c.args.text.now (omega arith) c.advance.new.self c.choice.new.self.reader _ c.choice.new.self.table c.in_ok-choice.field-0 c.in_ok-advance.ensures.step.reads (ap (λ x. length x.now) c.advance.ensures.on.text_same) (ap (λ x. length x.now) (c.choice.ensures.on.text_same ∙ c.advance.ensures.on.text_same)) c.in_ok-choice.ensures.reads word.0 word.1)
 
 pub returns : goal.returns
 returns c =
     subst (Answer c.args.conditions c.args.text.now) (sym c.ok_or.ensures.value)
-    (table_answered c.args.conditions c.args.text.now (omega arith) c.advance.new.self c.choice.new.r (Some c.new.result) c.choice.new.t c.in_ok-choice.field-0
+    (table_answered c.args.conditions c.args.text.now (omega arith) c.advance.new.self c.choice.new.self.reader (Some c.new.result) c.choice.new.self.table c.in_ok-choice.field-0
     c.in_ok-advance.ensures.step.reads (ap (λ x. length x.now) c.advance.ensures.on.text_same)
     (ap (λ x. length x.now) (c.choice.ensures.on.text_same ∙ c.advance.ensures.on.text_same)) c.in_ok-choice.ensures.reads
-    (ap Some c.new.ensures) (no_word c.choice.new.r.word (sym c.if-is_some.ensures)))
+    (ap Some c.new.ensures) (no_word c.choice.new.self.reader.word (sym c.if-is_some.ensures)))
