@@ -266,15 +266,26 @@ abbrev pub Takes : Word → Reader → Reader → Result (Unit {0}) Fault → Ty
 Takes w a b (Ok u) = Took w a b
 Takes w a b (Err e) = Missed w a e
 
+-- With n levels left, what is read as a part, as parts joined by `&` or as a whole rule comes to the fault.
+abbrev pub OneFails : ℕ → Reader → Fault → Type 0
+OneFails n a e =
+    (xs : List Prefix) (o l : Option Rule) (K : Around) → length xs + depth K + n ≡ 32
+    → outcome (end_of a) (unread a) (before_part xs o l K) ≡ Err e
+
+abbrev pub BothFails : ℕ → Reader → Fault → Type 0
+BothFails n a e =
+    (o : Option Rule) (K : Around) → depth K + n ≡ 32 → outcome (end_of a) (unread a) (before_part [] o None K) ≡ Err e
+
+abbrev pub ChoiceFails : ℕ → Reader → Fault → Type 0
+ChoiceFails n a e = (K : Around) → depth K + n ≡ 32 → outcome (end_of a) (unread a) (before_part [] None None K) ≡ Err e
+
 -- `one` with n levels left: from any place before a part it comes behind the part, or to its fault.
 abbrev pub OneRead : ℕ → Parser → Parser → Result ℕ Fault → Type 0
 OneRead n a b (Ok r) =
     (f : Rule) × Added a.table b.table f r × (a.reader.start < b.reader.start)
     × ((xs : List Prefix) (o l : Option Rule) (K : Around) → length xs + depth K + n ≡ 32
     → outcome (end_of a.reader) (unread a.reader) (before_part xs o l K) ≡ outcome (end_of a.reader) (unread b.reader) (part_done xs o l K f))
-OneRead n a b (Err e) =
-    (xs : List Prefix) (o l : Option Rule) (K : Around) → length xs + depth K + n ≡ 32
-    → outcome (end_of a.reader) (unread a.reader) (before_part xs o l K) ≡ Err e
+OneRead n a b (Err e) = OneFails n a.reader e
 
 -- `both` with n levels left: the parts joined by `&`.
 abbrev pub BothRead : ℕ → Parser → Parser → Result ℕ Fault → Type 0
@@ -282,8 +293,7 @@ BothRead n a b (Ok r) =
     (f : Rule) × Added a.table b.table f r × (a.reader.start < b.reader.start) × (b.reader.word ≢ Some And)
     × ((o : Option Rule) (K : Around) → depth K + n ≡ 32
     → outcome (end_of a.reader) (unread a.reader) (before_part [] o None K) ≡ outcome (end_of a.reader) (unread b.reader) (behind_part o f K))
-BothRead n a b (Err e) =
-    (o : Option Rule) (K : Around) → depth K + n ≡ 32 → outcome (end_of a.reader) (unread a.reader) (before_part [] o None K) ≡ Err e
+BothRead n a b (Err e) = BothFails n a.reader e
 
 -- `choice` with n levels left: a whole rule.
 abbrev pub ChoiceRead : ℕ → Parser → Parser → Result ℕ Fault → Type 0
@@ -291,8 +301,7 @@ ChoiceRead n a b (Ok r) =
     (o : Option Rule) × (f : Rule) × Added a.table b.table (or_with o f) r × (a.reader.start < b.reader.start) × (b.reader.word ≢ Some And) × (b.reader.word ≢ Some Or)
     × ((K : Around) → depth K + n ≡ 32
     → outcome (end_of a.reader) (unread a.reader) (before_part [] None None K) ≡ outcome (end_of a.reader) (unread b.reader) (behind_part o f K))
-ChoiceRead n a b (Err e) =
-    (K : Around) → depth K + n ≡ 32 → outcome (end_of a.reader) (unread a.reader) (before_part [] None None K) ≡ Err e
+ChoiceRead n a b (Err e) = ChoiceFails n a.reader e
 
 -- Going past a word that opens or fills a level, with n levels left.
 abbrev pub Enters : ℕ → Reader → Reader → Result (Unit {0}) Fault → Type 0

@@ -10,12 +10,12 @@ use Rattle.rule_text.proofs.parse.Parser.+both_choice_one.Goals as goal
 pub both-returns-in_err-advance-clause-reads : goal.both-returns-in_err-advance-clause-reads
 both-returns-in_err-advance-clause-reads t c =
     left_with (BothRead c.args.levels c.args.self.now (parser c.advance.new.self c.loop-self.self.table)) c.from_residual-in_err-advance.result c.in_err-advance.field-0.0 c.from_residual-in_err-advance.ensures.1
-    (Parts.both_next_bad c.args.levels c.args.self.now.reader c.one.new.self.reader c.loop-self.self.reader c.args.self.now.table c.one.new.self.table c.loop-self.self.table c.in_ok-left.left c.loop-self.left c.in_ok-left.ensures.reads c.one.ensures.on c.loop-self.invariant.2 c.advance.new.self c.loop-self.self.table c.in_err-advance.field-0.0 (c.has.ensures.0 c.loop-self-test.true) c.in_err-advance.ensures.step)
+    (Parts.both_next_bad c.args.levels c.args.self.now.reader c.one.new.self.reader c.loop-self.self.reader c.args.self.now.table c.one.new.self.table c.loop-self.self.table c.in_ok-left.left c.loop-self.left c.in_ok-left.ensures.reads c.one.ensures.on c.loop-self.invariant.2 c.in_err-advance.field-0.0 (c.has.ensures.0 c.loop-self-test.true) c.in_err-advance.ensures.step)
 
 pub both-returns-in_err-right-clause-reads : goal.both-returns-in_err-right-clause-reads
 both-returns-in_err-right-clause-reads t c =
     left_with (BothRead c.args.levels c.args.self.now c.one-in-loop-self.new.self) c.from_residual-in_err-right.result c.in_err-right.field-0.0 c.from_residual-in_err-right.ensures.1
-    (Parts.both_part_bad c.args.levels c.args.self.now.reader c.one.new.self.reader c.loop-self.self.reader c.args.self.now.table c.one.new.self.table c.loop-self.self.table c.in_ok-left.left c.loop-self.left c.in_ok-left.ensures.reads c.one.ensures.on c.loop-self.invariant.2 c.advance.new.self c.one-in-loop-self.new.self.reader c.one-in-loop-self.new.self.reader c.one-in-loop-self.new.self.table c.one-in-loop-self.new.self.table c.in_err-right.field-0.0 (c.has.ensures.0 c.loop-self-test.true) c.in_ok-advance.ensures.step (onward c.args.self.now.reader c.loop-self.self.reader c.advance.new.self (onward c.args.self.now.reader c.one.new.self.reader c.loop-self.self.reader c.one.ensures.on c.loop-self.invariant.0) c.advance.ensures.on) c.in_err-right.ensures.reads)
+    (Parts.both_part_bad c.args.levels c.args.self.now.reader c.one.new.self.reader c.loop-self.self.reader c.args.self.now.table c.one.new.self.table c.loop-self.self.table c.in_ok-left.left c.loop-self.left c.in_ok-left.ensures.reads c.one.ensures.on c.loop-self.invariant.2 c.advance.new.self c.in_err-right.field-0.0 (c.has.ensures.0 c.loop-self-test.true) c.in_ok-advance.ensures.step (onward c.args.self.now.reader c.loop-self.self.reader c.advance.new.self (onward c.args.self.now.reader c.one.new.self.reader c.loop-self.self.reader c.one.ensures.on c.loop-self.invariant.0) c.advance.ensures.on) c.in_err-right.ensures.reads)
 
 pub both-loop-self-preserved : goal.both-loop-self-preserved
 both-loop-self-preserved t c = (
@@ -30,12 +30,12 @@ both-loop-self-preserved t c = (
 pub choice-returns-in_err-advance-clause-reads : goal.choice-returns-in_err-advance-clause-reads
 choice-returns-in_err-advance-clause-reads t c =
     left_with (ChoiceRead c.args.levels c.args.self.now (parser c.advance.new.self c.loop-self.self.table)) c.from_residual-in_err-advance.result c.in_err-advance.field-0.0 c.from_residual-in_err-advance.ensures.1
-    (Parts.choice_next_bad c.args.levels c.args.self.now.reader c.both.new.self.reader c.loop-self.self.reader c.args.self.now.table c.both.new.self.table c.loop-self.self.table c.in_ok-left.left c.loop-self.left c.in_ok-left.ensures.reads c.both.ensures.on c.loop-self.invariant.3 c.advance.new.self c.loop-self.self.table c.in_err-advance.field-0.0 (c.has.ensures.0 c.loop-self-test.true) c.in_err-advance.ensures.step)
+    (Parts.choice_next_bad c.args.levels c.args.self.now.reader c.both.new.self.reader c.loop-self.self.reader c.args.self.now.table c.both.new.self.table c.loop-self.self.table c.in_ok-left.left c.loop-self.left c.in_ok-left.ensures.reads c.both.ensures.on c.loop-self.invariant.3 c.in_err-advance.field-0.0 (c.has.ensures.0 c.loop-self-test.true) c.in_err-advance.ensures.step)
 
 pub choice-returns-in_err-right-clause-reads : goal.choice-returns-in_err-right-clause-reads
 choice-returns-in_err-right-clause-reads t c =
     left_with (ChoiceRead c.args.levels c.args.self.now c.both-in-loop-self.new.self) c.from_residual-in_err-right.result c.in_err-right.field-0.0 c.from_residual-in_err-right.ensures.1
-    (Parts.choice_part_bad c.args.levels c.args.self.now.reader c.both.new.self.reader c.loop-self.self.reader c.args.self.now.table c.both.new.self.table c.loop-self.self.table c.in_ok-left.left c.loop-self.left c.in_ok-left.ensures.reads c.both.ensures.on c.loop-self.invariant.3 c.advance.new.self c.both-in-loop-self.new.self.reader c.both-in-loop-self.new.self.reader c.both-in-loop-self.new.self.table c.both-in-loop-self.new.self.table c.in_err-right.field-0.0 (c.has.ensures.0 c.loop-self-test.true) c.in_ok-advance.ensures.step (onward c.args.self.now.reader c.loop-self.self.reader c.advance.new.self (onward c.args.self.now.reader c.both.new.self.reader c.loop-self.self.reader c.both.ensures.on c.loop-self.invariant.0) c.advance.ensures.on) c.in_err-right.ensures.reads)
+    (Parts.choice_part_bad c.args.levels c.args.self.now.reader c.both.new.self.reader c.loop-self.self.reader c.args.self.now.table c.both.new.self.table c.loop-self.self.table c.in_ok-left.left c.loop-self.left c.in_ok-left.ensures.reads c.both.ensures.on c.loop-self.invariant.3 c.advance.new.self c.in_err-right.field-0.0 (c.has.ensures.0 c.loop-self-test.true) c.in_ok-advance.ensures.step (onward c.args.self.now.reader c.loop-self.self.reader c.advance.new.self (onward c.args.self.now.reader c.both.new.self.reader c.loop-self.self.reader c.both.ensures.on c.loop-self.invariant.0) c.advance.ensures.on) c.in_err-right.ensures.reads)
 
 pub choice-loop-self-preserved : goal.choice-loop-self-preserved
 choice-loop-self-preserved t c = (
@@ -55,32 +55,32 @@ choice-returns-clause-reads t c =
 pub one-returns-in_err-enter-in-Yes-clause-reads : goal.one-returns-in_err-enter-in-Yes-clause-reads
 one-returns-in_err-enter-in-Yes-clause-reads t c =
     left_with (OneRead c.args.levels c.args.self.now (parser c.enter.new.self c.args.self.now.table)) c.from_residual.result c.in_err-enter-in-Yes.field-0.0 c.from_residual.ensures.1
-    (Parts.one_not_entered c.args.levels c.args.self.now.reader c.enter.new.self c.enter.new.self c.args.self.now.table c.args.self.now.table Yes c.in_err-enter-in-Yes.field-0.0 (c.in-Some.is ∙ ap Some c.in-Yes.is) refl c.in_err-enter-in-Yes.ensures.enters (λ xs o l K. (_, refl)))
+    (Parts.one_not_entered c.args.levels c.args.self.now.reader c.enter.new.self Yes c.in_err-enter-in-Yes.field-0.0 (c.in-Some.is ∙ ap Some c.in-Yes.is) refl c.in_err-enter-in-Yes.ensures.enters (λ xs o l K. (_, refl)))
 
 pub one-returns-in_err-enter-in-Mark-clause-reads : goal.one-returns-in_err-enter-in-Mark-clause-reads
 one-returns-in_err-enter-in-Mark-clause-reads t c =
     left_with (OneRead c.args.levels c.args.self.now (parser c.enter-in-Mark.new.self c.args.self.now.table)) c.from_residual-in_err-enter-in-Mark.result c.in_err-enter-in-Mark.field-0.0 c.from_residual-in_err-enter-in-Mark.ensures.1
-    (Parts.one_not_entered c.args.levels c.args.self.now.reader c.enter-in-Mark.new.self c.enter-in-Mark.new.self c.args.self.now.table c.args.self.now.table (Mark c.in-Mark.k) c.in_err-enter-in-Mark.field-0.0 (c.in-Some.is ∙ ap Some c.in-Mark.is) refl c.in_err-enter-in-Mark.ensures.enters (λ xs o l K. (_, refl)))
+    (Parts.one_not_entered c.args.levels c.args.self.now.reader c.enter-in-Mark.new.self (Mark c.in-Mark.k) c.in_err-enter-in-Mark.field-0.0 (c.in-Some.is ∙ ap Some c.in-Mark.is) refl c.in_err-enter-in-Mark.ensures.enters (λ xs o l K. (_, refl)))
 
 pub one-returns-in_err-enter-in-Condition-clause-reads : goal.one-returns-in_err-enter-in-Condition-clause-reads
 one-returns-in_err-enter-in-Condition-clause-reads t c =
     left_with (OneRead c.args.levels c.args.self.now (parser c.enter-in-Condition.new.self c.args.self.now.table)) c.from_residual-in_err-enter-in-Condition.result c.in_err-enter-in-Condition.field-0.0 c.from_residual-in_err-enter-in-Condition.ensures.1
-    (Parts.one_not_entered c.args.levels c.args.self.now.reader c.enter-in-Condition.new.self c.enter-in-Condition.new.self c.args.self.now.table c.args.self.now.table (Condition c.in-Condition.k) c.in_err-enter-in-Condition.field-0.0 (c.in-Some.is ∙ ap Some c.in-Condition.is) refl c.in_err-enter-in-Condition.ensures.enters (λ xs o l K. (_, refl)))
+    (Parts.one_not_entered c.args.levels c.args.self.now.reader c.enter-in-Condition.new.self (Condition c.in-Condition.k) c.in_err-enter-in-Condition.field-0.0 (c.in-Some.is ∙ ap Some c.in-Condition.is) refl c.in_err-enter-in-Condition.ensures.enters (λ xs o l K. (_, refl)))
 
 pub one-returns-in_err-enter-in-Before-clause-reads : goal.one-returns-in_err-enter-in-Before-clause-reads
 one-returns-in_err-enter-in-Before-clause-reads t c =
     left_with (OneRead c.args.levels c.args.self.now (parser c.enter-in-Before.new.self c.args.self.now.table)) c.from_residual-in_err-enter-in-Before.result c.in_err-enter-in-Before.field-0.0 c.from_residual-in_err-enter-in-Before.ensures.1
-    (Parts.one_not_entered c.args.levels c.args.self.now.reader c.enter-in-Before.new.self c.enter-in-Before.new.self c.args.self.now.table c.args.self.now.table (Before c.in-Before.prefix) c.in_err-enter-in-Before.field-0.0 (c.in-Some.is ∙ ap Some c.in-Before.is) refl c.in_err-enter-in-Before.ensures.enters (λ xs o l K. (_, refl)))
+    (Parts.one_not_entered c.args.levels c.args.self.now.reader c.enter-in-Before.new.self (Before c.in-Before.prefix) c.in_err-enter-in-Before.field-0.0 (c.in-Some.is ∙ ap Some c.in-Before.is) refl c.in_err-enter-in-Before.ensures.enters (λ xs o l K. (_, refl)))
 
 pub one-returns-in_err-enter-in-Open-clause-reads : goal.one-returns-in_err-enter-in-Open-clause-reads
 one-returns-in_err-enter-in-Open-clause-reads t c =
     left_with (OneRead c.args.levels c.args.self.now (parser c.enter-in-Open.new.self c.args.self.now.table)) c.from_residual-in_err-enter-in-Open.result c.in_err-enter-in-Open.field-0.0 c.from_residual-in_err-enter-in-Open.ensures.1
-    (Parts.one_not_entered c.args.levels c.args.self.now.reader c.enter-in-Open.new.self c.enter-in-Open.new.self c.args.self.now.table c.args.self.now.table Open c.in_err-enter-in-Open.field-0.0 (c.in-Some.is ∙ ap Some c.in-Open.is) refl c.in_err-enter-in-Open.ensures.enters (λ xs o l K. (_, refl)))
+    (Parts.one_not_entered c.args.levels c.args.self.now.reader c.enter-in-Open.new.self Open c.in_err-enter-in-Open.field-0.0 (c.in-Some.is ∙ ap Some c.in-Open.is) refl c.in_err-enter-in-Open.ensures.enters (λ xs o l K. (_, refl)))
 
 pub one-returns-in_err-enter-in-Routes-clause-reads : goal.one-returns-in_err-enter-in-Routes-clause-reads
 one-returns-in_err-enter-in-Routes-clause-reads t c =
     left_with (OneRead c.args.levels c.args.self.now (parser c.enter-in-Routes.new.self c.args.self.now.table)) c.from_residual-in_err-enter-in-Routes.result c.in_err-enter-in-Routes.field-0.0 c.from_residual-in_err-enter-in-Routes.ensures.1
-    (Parts.one_not_entered c.args.levels c.args.self.now.reader c.enter-in-Routes.new.self c.enter-in-Routes.new.self c.args.self.now.table c.args.self.now.table (Routes c.in-Routes.quantifier) c.in_err-enter-in-Routes.field-0.0 (c.in-Some.is ∙ ap Some c.in-Routes.is) refl c.in_err-enter-in-Routes.ensures.enters (λ xs o l K. (_, refl)))
+    (Parts.one_not_entered c.args.levels c.args.self.now.reader c.enter-in-Routes.new.self (Routes c.in-Routes.quantifier) c.in_err-enter-in-Routes.field-0.0 (c.in-Some.is ∙ ap Some c.in-Routes.is) refl c.in_err-enter-in-Routes.ensures.enters (λ xs o l K. (_, refl)))
 
 pub one-returns-in_ok-enter-in-Yes-clause-reads : goal.one-returns-in_ok-enter-in-Yes-clause-reads
 one-returns-in_ok-enter-in-Yes-clause-reads t c =
@@ -107,17 +107,17 @@ one-returns-in_ok-part-in-Before-clause-reads t c =
 pub one-returns-in_err-part-in-Before-clause-reads : goal.one-returns-in_err-part-in-Before-clause-reads
 one-returns-in_err-part-in-Before-clause-reads t c =
     left_with (OneRead c.args.levels c.args.self.now c.one.new.self) c.from_residual-in_err-part-in-Before.result c.in_err-part-in-Before.field-0.0 c.from_residual-in_err-part-in-Before.ensures.1
-    (Parts.one_prefix_not c.in-Before.prefix c.args.levels c.args.self.now.reader c.enter-in-Before.new.self c.one.new.self.reader c.one.new.self.reader c.args.self.now.table c.open_prefix-first.new.t c.one.new.self.table c.one.new.self.table c.in_err-part-in-Before.field-0.0 (c.in-Some.is ∙ ap Some c.in-Before.is) c.in_ok-enter-in-Before.ensures.enters c.enter-in-Before.ensures.on c.in_err-part-in-Before.ensures.reads)
+    (Parts.one_prefix_not c.in-Before.prefix c.args.levels c.args.self.now.reader c.enter-in-Before.new.self c.in_err-part-in-Before.field-0.0 (c.in-Some.is ∙ ap Some c.in-Before.is) c.in_ok-enter-in-Before.ensures.enters c.enter-in-Before.ensures.on c.in_err-part-in-Before.ensures.reads)
 
 pub one-returns-in_err-whole-in-Open-clause-reads : goal.one-returns-in_err-whole-in-Open-clause-reads
 one-returns-in_err-whole-in-Open-clause-reads t c =
     left_with (OneRead c.args.levels c.args.self.now c.choice.new.self) c.from_residual-in_err-whole-in-Open.result c.in_err-whole-in-Open.field-0.0 c.from_residual-in_err-whole-in-Open.ensures.1
-    (Parts.one_bracket_not c.args.levels c.args.self.now.reader c.enter-in-Open.new.self (c.in-Some.is ∙ ap Some c.in-Open.is) c.in_ok-enter-in-Open.ensures.enters c.enter-in-Open.ensures.on c.choice.new.self.reader c.choice.new.self.reader c.args.self.now.table c.choice.new.self.table c.args.self.now.table c.choice.new.self.table c.in_err-whole-in-Open.field-0.0 c.in_err-whole-in-Open.ensures.reads)
+    (Parts.one_bracket_not c.args.levels c.args.self.now.reader c.enter-in-Open.new.self (c.in-Some.is ∙ ap Some c.in-Open.is) c.in_ok-enter-in-Open.ensures.enters c.enter-in-Open.ensures.on c.in_err-whole-in-Open.field-0.0 c.in_err-whole-in-Open.ensures.reads)
 
 pub one-returns-in_err-take-in-Open-clause-reads : goal.one-returns-in_err-take-in-Open-clause-reads
 one-returns-in_err-take-in-Open-clause-reads t c =
     left_with (OneRead c.args.levels c.args.self.now (parser c.take.new.self c.choice.new.self.table)) c.from_residual-in_err-take-in-Open.result c.in_err-take-in-Open.field-0.0 c.from_residual-in_err-take-in-Open.ensures.1
-    (Parts.one_bracket_open c.args.levels c.args.self.now.reader c.enter-in-Open.new.self (c.in-Some.is ∙ ap Some c.in-Open.is) c.in_ok-enter-in-Open.ensures.enters c.enter-in-Open.ensures.on c.choice.new.self.reader c.take.new.self c.args.self.now.table c.choice.new.self.table c.args.self.now.table c.choice.new.self.table c.in_ok-whole-in-Open.whole c.in_err-take-in-Open.field-0.0 c.in_ok-whole-in-Open.ensures.reads c.choice.ensures.on c.in_err-take-in-Open.ensures.takes)
+    (Parts.one_bracket_open c.args.levels c.args.self.now.reader c.enter-in-Open.new.self (c.in-Some.is ∙ ap Some c.in-Open.is) c.in_ok-enter-in-Open.ensures.enters c.enter-in-Open.ensures.on c.choice.new.self.reader c.args.self.now.table c.choice.new.self.table c.in_ok-whole-in-Open.whole c.in_err-take-in-Open.field-0.0 c.in_ok-whole-in-Open.ensures.reads c.choice.ensures.on c.in_err-take-in-Open.ensures.takes)
 
 pub one-returns-in_ok-take-in-Open-clause-reads : goal.one-returns-in_ok-take-in-Open-clause-reads
 one-returns-in_ok-take-in-Open-clause-reads t c =
@@ -126,27 +126,27 @@ one-returns-in_ok-take-in-Open-clause-reads t c =
 pub one-returns-in_err-take-in-Routes-clause-reads : goal.one-returns-in_err-take-in-Routes-clause-reads
 one-returns-in_err-take-in-Routes-clause-reads t c =
     left_with (OneRead c.args.levels c.args.self.now (parser c.take-in-Routes.new.self c.args.self.now.table)) c.from_residual-in_err-take-in-Routes.result c.in_err-take-in-Routes.field-0.0 c.from_residual-in_err-take-in-Routes.ensures.1
-    (Parts.one_until_square c.in-Routes.quantifier c.args.levels c.args.self.now.reader c.enter-in-Routes.new.self (c.in-Some.is ∙ ap Some c.in-Routes.is) c.in_ok-enter-in-Routes.ensures.enters c.enter-in-Routes.ensures.on c.take-in-Routes.new.self c.args.self.now.table c.args.self.now.table c.in_err-take-in-Routes.field-0.0 c.in_err-take-in-Routes.ensures.takes)
+    (Parts.one_until_square c.in-Routes.quantifier c.args.levels c.args.self.now.reader c.enter-in-Routes.new.self (c.in-Some.is ∙ ap Some c.in-Routes.is) c.in_ok-enter-in-Routes.ensures.enters c.enter-in-Routes.ensures.on c.in_err-take-in-Routes.field-0.0 c.in_err-take-in-Routes.ensures.takes)
 
 pub one-returns-in_err-p-in-Routes-clause-reads : goal.one-returns-in_err-p-in-Routes-clause-reads
 one-returns-in_err-p-in-Routes-clause-reads t c =
     left_with (OneRead c.args.levels c.args.self.now c.choice-in-Routes.new.self) c.from_residual-in_err-p-in-Routes.result c.in_err-p-in-Routes.field-0.0 c.from_residual-in_err-p-in-Routes.ensures.1
-    (Parts.one_until_first_not c.in-Routes.quantifier c.args.levels c.args.self.now.reader c.enter-in-Routes.new.self (c.in-Some.is ∙ ap Some c.in-Routes.is) c.in_ok-enter-in-Routes.ensures.enters c.enter-in-Routes.ensures.on c.take-in-Routes.new.self c.in_ok-take-in-Routes.ensures.takes c.take-in-Routes.ensures.on c.choice-in-Routes.new.self.reader c.choice-in-Routes.new.self.reader c.args.self.now.table c.choice-in-Routes.new.self.table c.args.self.now.table c.choice-in-Routes.new.self.table c.in_err-p-in-Routes.field-0.0 c.in_err-p-in-Routes.ensures.reads)
+    (Parts.one_until_first_not c.in-Routes.quantifier c.args.levels c.args.self.now.reader c.enter-in-Routes.new.self (c.in-Some.is ∙ ap Some c.in-Routes.is) c.in_ok-enter-in-Routes.ensures.enters c.enter-in-Routes.ensures.on c.take-in-Routes.new.self c.in_ok-take-in-Routes.ensures.takes c.take-in-Routes.ensures.on c.in_err-p-in-Routes.field-0.0 c.in_err-p-in-Routes.ensures.reads)
 
 pub one-returns-in_err-take-in-Routes-2-clause-reads : goal.one-returns-in_err-take-in-Routes-2-clause-reads
 one-returns-in_err-take-in-Routes-2-clause-reads t c =
     left_with (OneRead c.args.levels c.args.self.now (parser c.take-in-Routes-2.new.self c.choice-in-Routes.new.self.table)) c.from_residual-in_err-take-in-Routes-2.result c.in_err-take-in-Routes-2.field-0.0 c.from_residual-in_err-take-in-Routes-2.ensures.1
-    (Parts.one_until_missing c.in-Routes.quantifier c.args.levels c.args.self.now.reader c.enter-in-Routes.new.self (c.in-Some.is ∙ ap Some c.in-Routes.is) c.in_ok-enter-in-Routes.ensures.enters c.enter-in-Routes.ensures.on c.take-in-Routes.new.self c.in_ok-take-in-Routes.ensures.takes c.take-in-Routes.ensures.on c.choice-in-Routes.new.self.reader c.args.self.now.table c.choice-in-Routes.new.self.table c.in_ok-p-in-Routes.p c.in_ok-p-in-Routes.ensures.reads c.choice-in-Routes.ensures.on c.take-in-Routes-2.new.self c.args.self.now.table c.choice-in-Routes.new.self.table c.in_err-take-in-Routes-2.field-0.0 c.in_err-take-in-Routes-2.ensures.takes)
+    (Parts.one_until_missing c.in-Routes.quantifier c.args.levels c.args.self.now.reader c.enter-in-Routes.new.self (c.in-Some.is ∙ ap Some c.in-Routes.is) c.in_ok-enter-in-Routes.ensures.enters c.enter-in-Routes.ensures.on c.take-in-Routes.new.self c.in_ok-take-in-Routes.ensures.takes c.take-in-Routes.ensures.on c.choice-in-Routes.new.self.reader c.args.self.now.table c.choice-in-Routes.new.self.table c.in_ok-p-in-Routes.p c.in_ok-p-in-Routes.ensures.reads c.choice-in-Routes.ensures.on c.in_err-take-in-Routes-2.field-0.0 c.in_err-take-in-Routes-2.ensures.takes)
 
 pub one-returns-in_err-q-in-Routes-clause-reads : goal.one-returns-in_err-q-in-Routes-clause-reads
 one-returns-in_err-q-in-Routes-clause-reads t c =
     left_with (OneRead c.args.levels c.args.self.now c.choice-in-Routes-2.new.self) c.from_residual-in_err-q-in-Routes.result c.in_err-q-in-Routes.field-0.0 c.from_residual-in_err-q-in-Routes.ensures.1
-    (Parts.one_until_second_not c.in-Routes.quantifier c.args.levels c.args.self.now.reader c.enter-in-Routes.new.self (c.in-Some.is ∙ ap Some c.in-Routes.is) c.in_ok-enter-in-Routes.ensures.enters c.enter-in-Routes.ensures.on c.take-in-Routes.new.self c.in_ok-take-in-Routes.ensures.takes c.take-in-Routes.ensures.on c.choice-in-Routes.new.self.reader c.args.self.now.table c.choice-in-Routes.new.self.table c.in_ok-p-in-Routes.p c.in_ok-p-in-Routes.ensures.reads c.choice-in-Routes.ensures.on c.take-in-Routes-2.new.self c.in_ok-take-in-Routes-2.ensures.takes c.take-in-Routes-2.ensures.on c.choice-in-Routes-2.new.self.reader c.choice-in-Routes-2.new.self.reader c.choice-in-Routes.new.self.table c.choice-in-Routes-2.new.self.table c.args.self.now.table c.choice-in-Routes-2.new.self.table c.in_err-q-in-Routes.field-0.0 c.in_err-q-in-Routes.ensures.reads)
+    (Parts.one_until_second_not c.in-Routes.quantifier c.args.levels c.args.self.now.reader c.enter-in-Routes.new.self (c.in-Some.is ∙ ap Some c.in-Routes.is) c.in_ok-enter-in-Routes.ensures.enters c.enter-in-Routes.ensures.on c.take-in-Routes.new.self c.in_ok-take-in-Routes.ensures.takes c.take-in-Routes.ensures.on c.choice-in-Routes.new.self.reader c.args.self.now.table c.choice-in-Routes.new.self.table c.in_ok-p-in-Routes.p c.in_ok-p-in-Routes.ensures.reads c.choice-in-Routes.ensures.on c.take-in-Routes-2.new.self c.in_ok-take-in-Routes-2.ensures.takes c.take-in-Routes-2.ensures.on c.in_err-q-in-Routes.field-0.0 c.in_err-q-in-Routes.ensures.reads)
 
 pub one-returns-in_err-take-in-Routes-3-clause-reads : goal.one-returns-in_err-take-in-Routes-3-clause-reads
 one-returns-in_err-take-in-Routes-3-clause-reads t c =
     left_with (OneRead c.args.levels c.args.self.now (parser c.take-in-Routes-3.new.self c.choice-in-Routes-2.new.self.table)) c.from_residual-in_err-take-in-Routes-3.result c.in_err-take-in-Routes-3.field-0.0 c.from_residual-in_err-take-in-Routes-3.ensures.1
-    (Parts.one_until_open c.in-Routes.quantifier c.args.levels c.args.self.now.reader c.enter-in-Routes.new.self (c.in-Some.is ∙ ap Some c.in-Routes.is) c.in_ok-enter-in-Routes.ensures.enters c.enter-in-Routes.ensures.on c.take-in-Routes.new.self c.in_ok-take-in-Routes.ensures.takes c.take-in-Routes.ensures.on c.choice-in-Routes.new.self.reader c.args.self.now.table c.choice-in-Routes.new.self.table c.in_ok-p-in-Routes.p c.in_ok-p-in-Routes.ensures.reads c.choice-in-Routes.ensures.on c.take-in-Routes-2.new.self c.in_ok-take-in-Routes-2.ensures.takes c.take-in-Routes-2.ensures.on c.choice-in-Routes-2.new.self.reader c.choice-in-Routes-2.new.self.table c.in_ok-q-in-Routes.q c.in_ok-q-in-Routes.ensures.reads c.choice-in-Routes-2.ensures.on c.take-in-Routes-3.new.self c.args.self.now.table c.choice-in-Routes-2.new.self.table c.in_err-take-in-Routes-3.field-0.0 c.in_err-take-in-Routes-3.ensures.takes)
+    (Parts.one_until_open c.in-Routes.quantifier c.args.levels c.args.self.now.reader c.enter-in-Routes.new.self (c.in-Some.is ∙ ap Some c.in-Routes.is) c.in_ok-enter-in-Routes.ensures.enters c.enter-in-Routes.ensures.on c.take-in-Routes.new.self c.in_ok-take-in-Routes.ensures.takes c.take-in-Routes.ensures.on c.choice-in-Routes.new.self.reader c.args.self.now.table c.choice-in-Routes.new.self.table c.in_ok-p-in-Routes.p c.in_ok-p-in-Routes.ensures.reads c.choice-in-Routes.ensures.on c.take-in-Routes-2.new.self c.in_ok-take-in-Routes-2.ensures.takes c.take-in-Routes-2.ensures.on c.choice-in-Routes-2.new.self.reader c.choice-in-Routes-2.new.self.table c.in_ok-q-in-Routes.q c.in_ok-q-in-Routes.ensures.reads c.choice-in-Routes-2.ensures.on c.in_err-take-in-Routes-3.field-0.0 c.in_err-take-in-Routes-3.ensures.takes)
 
 pub one-returns-in_ok-take-in-Routes-3-clause-reads : goal.one-returns-in_ok-take-in-Routes-3-clause-reads
 one-returns-in_ok-take-in-Routes-3-clause-reads t c =
