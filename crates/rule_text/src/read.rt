@@ -25,13 +25,7 @@ fn read_table(text: &[u8], conditions: u32) -> Result<Table, Fault>
             byte: MOST_BYTES,
         });
     }
-    let mut reader = Reader {
-        text,
-        conditions,
-        word: None,
-        start: text.len(),
-        next: 0,
-    };
+    let mut reader = Reader::new(text, conditions);
     reader.advance()?;
     let mut parser = Parser {
         reader,
