@@ -1,12 +1,15 @@
 -- Sets kept as the bits of a word, over any width w.
-use Rattle.std.proofs.Common.{◌≡◌, ℕ, zero, suc, ◌+◌, ◌^◌, ◌<◌, Bool, true, false, not, ◌&&◌, ◌||◌, eqb, ltb, Decides, sym, refl, ap, ◌∙◌}
+use Rattle.std.proofs.Common.{◌≡◌, ℕ, zero, suc, ◌^◌, ◌<◌, Bool, true, false, not, ◌&&◌, ◌||◌, eqb, ltb, Decides, sym, refl, ap, ◌∙◌}
 use mathlib.Core.Bool.{beq}
-use lib.Bits.{bit_and, bit_or}
-use lib.Count.{count_trailing_zeros}
+use Rattle.std.specs.Prelude.{bit_and, bit_or}
+use mir.Val.{bits}
+use Rattle.std.specs.Int.{Width, bit_not, trailing_zeros}
+use Rattle.std.proofs.Math.Bool.{and-false, and-or_distrib_left}
+use Rattle.std.proofs.lemmas.Nat.Bits.{bit_at-trailing_zeros}
 use Rattle.std.proofs.lemmas.Bool.{ltb-true, lt-ltb, eqb-true, eq-eqb, false≢true, both_ways}
 use Rattle.std.proofs.lemmas.Bool.Decides.{Decides-below_and}
 use Rattle.conditions.specs.Sets.{bit, Picked}
-use Rattle.conditions.proofs.Bits.{bit_of_and, bit_of_or, bit_flip, bits_same, trailing_lt, trailing_at, trailing_below}
+use Rattle.conditions.proofs.Bits.{bit_of_and, bit_of_or, bit_of_not, bits_same}
 use Rattle.conditions.proofs.Picking.{picked_least}
 
 -- A test of every number below n, which the checker computes at a numeral.
@@ -32,21 +35,9 @@ pub table : (n : ℕ) (f g : ℕ → Bool) → every (λ a. beq (f a) (g a)) n �
 table n f g h a =
     guarded (ltb a n) (f a) (g a) (λ e. alike (f a) (g a) (each (λ a. beq (f a) (g a)) n h a (ltb-true a n e)))
 
-pub and_yes : (t : Bool) → (t && true) ≡ t
-and_yes true = refl
-and_yes false = refl
-
-and_no : (t : Bool) → (t && false) ≡ false
-and_no true = refl
-and_no false = refl
-
 both_of : (t x y : Bool) → (t && (x && y)) ≡ ((t && x) && (t && y))
 both_of true x y = refl
 both_of false x y = refl
-
-either_of : (t x y : Bool) → (t && (x || y)) ≡ ((t && x) || (t && y))
-either_of true x y = refl
-either_of false x y = refl
 
 outside_of : (t x : Bool) → (t && not x) ≡ (t && not (t && x))
 outside_of true x = refl
@@ -56,11 +47,12 @@ pub word_intersection : (w x y a : ℕ) → (ltb a w && bit (bit_and x y) a) ≡
 word_intersection w x y a = ap (λ b. ltb a w && b) (bit_of_and x y a) ∙ both_of (ltb a w) (bit x a) (bit y a)
 
 pub word_union : (w x y a : ℕ) → (ltb a w && bit (bit_or x y) a) ≡ ((ltb a w && bit x a) || (ltb a w && bit y a))
-word_union w x y a = ap (λ b. ltb a w && b) (bit_of_or x y a) ∙ either_of (ltb a w) (bit x a) (bit y a)
+word_union w x y a = ap (λ b. ltb a w && b) (bit_of_or x y a) ∙ and-or_distrib_left (ltb a w) (bit x a) (bit y a)
 
-pub word_complement : (w x y a : ℕ) → x + y + 1 ≡ 2 ^ w → (ltb a w && bit y a) ≡ (ltb a w && not (ltb a w && bit x a))
-word_complement w x y a e =
-    guarded (ltb a w) (bit y a) (not (bit x a)) (λ l. bit_flip w x y a e (ltb-true a w l)) ∙ outside_of (ltb a w) (bit x a)
+pub word_complement : (w : Width) (x a : ℕ) → x < 2 ^ bits w
+    → (ltb a (bits w) && bit (bit_not w x) a) ≡ (ltb a (bits w) && not (ltb a (bits w) && bit x a))
+word_complement w x a h =
+    guarded (ltb a (bits w)) (bit (bit_not w x) a) (not (bit x a)) (λ l. bit_of_not w x a h (ltb-true a (bits w) l)) ∙ outside_of (ltb a (bits w)) (bit x a)
 
 pub word_same : (w x y : ℕ) → x < 2 ^ w → y < 2 ^ w → Decides (eqb x y) ((a : ℕ) → (ltb a w && bit x a) ≡ (ltb a w && bit y a))
 word_same w x y h k = (
@@ -72,12 +64,12 @@ word_same w x y h k = (
     under_guard true x y e f = f
     under_guard false x y e f = absurd (false≢true e)
 
-pub word_pick : (w n : ℕ) → n < 2 ^ w → 0 < n → Picked (λ a. (ltb a w && bit n a) ≡ true) (count_trailing_zeros w n)
-word_pick w n h p =
-    let l = trailing_lt w n h p in
-    picked_least (λ a. (ltb a w && bit n a) ≡ true) (count_trailing_zeros w n)
-    (ap (λ t. t && bit n (count_trailing_zeros w n)) (lt-ltb (count_trailing_zeros w n) w l) ∙ trailing_at w n l)
-    (λ a k. both_ways (ltb a w && bit n a) (ap (λ b. ltb a w && b) (trailing_below w n a k) ∙ and_no (ltb a w)))
+pub word_pick : (w : Width) (n : ℕ) → 0 < n → n < 2 ^ bits w → Picked (λ a. (ltb a (bits w) && bit n a) ≡ true) (trailing_zeros w n)
+word_pick w n p h =
+    let t = bit_at-trailing_zeros w n p h in
+    picked_least (λ a. (ltb a (bits w) && bit n a) ≡ true) (trailing_zeros w n)
+    (ap (λ c. c && bit n (trailing_zeros w n)) (lt-ltb (trailing_zeros w n) (bits w) t.0) ∙ ap (λ d. eqb d 1) t.1)
+    (λ a k. both_ways (ltb a (bits w) && bit n a) (ap (λ b. ltb a (bits w) && eqb b 1) (t.2 a k) ∙ and-false (ltb a (bits w))))
 
 -- A constant m that has just the settings with condition k on.
 pub word_condition : (w m k j : ℕ) → j ≡ k → every (λ a. beq (bit m a) (bit a k)) w ≡ true → (a : ℕ) → (ltb a w && bit m a) ≡ (ltb a w && bit a j)

@@ -1,49 +1,40 @@
 -- What a question that is not refused says.
-use Rattle.std.proofs.Common.{◌≡◌, ℕ, ◌+◌, ◌*◌, ◌<◌, ◌≤◌, Bool, true, false, cond, ◌&&◌, ltb, leb, List, length, get_or, Some, None, refl, arith}
+use Rattle.std.proofs.Common.{◌≡◌, ℕ, ◌<◌, ◌≤◌, Bool, true, false, cond, ◌&&◌, ltb, leb, List, length, get_or, Some, None, refl, arith}
 use Rattle.std.proofs.lemmas.Bool.{and_parts, ltb-true, leb-true}
-use Rattle.routing.specs.declared.refusal.Refusal.TheVariants.{BadTable, BadQuery, TooShort}
+use Rattle.routing.specs.declared.refusal.Refusal.TheVariants.{BadTable, BadQuery}
 use Rattle.routing.specs.Net.{Net, Pos, Within, places, settings}
 use Rattle.routing.specs.Rules.{Rule}
 use Rattle.tables.specs.declared.row.Row.{Row}
 use Rattle.tables.specs.declared.row.Operation.{Operation}
 use Rattle.tables.specs.declared.row.Operation.TheVariants.{Yes, Mark, Condition, Not, And, Or, Next, Until, Always}
 use Rattle.tables.specs.Tables.{accepted, coded, no_row}
-use Rattle.judging.specs.Queries.{query_fits, route_room, route_refusal}
+use Rattle.judging.specs.Queries.{query_fits, query_refusal}
 use Rattle.judging.specs.Shown.{CanShow}
 use Rattle.judging.proofs.RuleRows.{operation_rule}
 
-three_tests : (t u v : Bool) → cond t (cond u (cond v None (Some TooShort)) (Some BadQuery)) (Some BadTable) ≡ None → (t ≡ true) × (u ≡ true) × (v ≡ true)
-three_tests true true true e = (refl, refl, refl)
-three_tests true true false e = let z : ◌≡◌ {A = ℕ} 0 1 = cc in absurd (omega arith)
-three_tests true false v e = let z : ◌≡◌ {A = ℕ} 0 1 = cc in absurd (omega arith)
-three_tests false u v e = let z : ◌≡◌ {A = ℕ} 0 1 = cc in absurd (omega arith)
+two_tests : (t u : Bool) → cond t (cond u None (Some BadQuery)) (Some BadTable) ≡ None → (t ≡ true) × (u ≡ true)
+two_tests true true e = (refl, refl)
+two_tests true false e = let z : ◌≡◌ {A = ℕ} 0 1 = cc in absurd (omega arith)
+two_tests false u e = let z : ◌≡◌ {A = ℕ} 0 1 = cc in absurd (omega arith)
 
-pub record Asked (N : Net) (rows : List Row) (r : ℕ) (x : Pos) (main spare steps : ℕ) : Type 0 where
+pub record Asked (N : Net) (rows : List Row) (r : ℕ) (x : Pos) : Type 0 where
   pub taken : accepted N.conditions rows ≡ true
   pub row_in : r < length rows
   pub operation : 6 ≤ (get_or rows r no_row).operation
   pub within : Within N x
-  pub room : length rows * places N ≤ main
-  pub room_spare : 2 * places N ≤ spare
-  pub room_steps : places N + 1 ≤ steps
 
-pub asked : (N : Net) (rows : List Row) (r : ℕ) (x : Pos) (main spare steps : ℕ) → route_refusal N rows r x main spare steps ≡ None → Asked N rows r x main spare steps
-asked N rows r x main spare steps e =
-    let t = three_tests (accepted N.conditions rows) (query_fits N rows r x) (route_room N rows main spare steps) e in
+pub asked : (N : Net) (rows : List Row) (r : ℕ) (x : Pos) → query_refusal N rows r x ≡ None → Asked N rows r x
+asked N rows r x e =
+    let t = two_tests (accepted N.conditions rows) (query_fits N rows r x) e in
     let q = and_parts (ltb r (length rows)) _ t.1 in
     let o = and_parts (leb 6 (get_or rows r no_row).operation && leb (get_or rows r no_row).operation 8) _ q.1 in
     let six = and_parts (leb 6 (get_or rows r no_row).operation) _ o.0 in
     let p = and_parts (ltb x.place (places N)) _ o.1 in
-    let m = and_parts (leb (length rows * places N) main) _ t.2 in
-    let s = and_parts (leb (2 * places N) spare) _ m.1 in
     record {
       taken = t.0;
       row_in = ltb-true r (length rows) q.0;
       operation = leb-true 6 _ six.0;
       within = record { place_in = ltb-true x.place (places N) p.0; setting_in = ltb-true x.setting (settings N) p.1 };
-      room = leb-true _ _ m.0;
-      room_spare = leb-true _ _ s.0;
-      room_steps = leb-true _ _ s.1;
     }
 
 -- Rows of operation 6 and on can be shown.

@@ -8,7 +8,6 @@ pub mod Into
 pub mod Lasting
 pub mod Marks
 pub mod Nexts
-pub mod Noting
 pub mod Operands
 pub mod Right
 pub mod Rows

@@ -96,3 +96,26 @@ least_at N T b i n e r s = record { stable = s; first = λ j l. r.moving j (omeg
 
 pub has_at : (N : Net) (T : ℕ → Pos → Type 0) (b : Pos → Bool) (i n : ℕ) → i ≡ n → Reached N T b i → Decided N b (T n)
 has_at N T b i n e r = subst (λ (k : ℕ). Decided N b (T k)) e r.has
+
+-- A sequence, and tests that decide it.
+module _ (N : Net) (t : ℕ → Pos → Bool) (T : ℕ → Pos → Type 0) (decide : (i : ℕ) → Decided N (t i) (T i)) where
+  pub has_of_test : (b : Pos → Bool) (i : ℕ) → Decided N b (λ x. t i x ≡ true) → Decided N b (T i)
+  has_of_test b i d x w = (λ h. (decide i x w).0 ((d x w).0 h), λ h. (d x w).1 ((decide i x w).1 h))
+
+  pub test_of_has : (b : Pos → Bool) (i : ℕ) → Decided N b (T i) → Decided N b (λ x. t i x ≡ true)
+  test_of_has b i d x w = (λ h. (decide i x w).1 ((d x w).0 h), λ h. (d x w).1 ((decide i x w).0 h))
+
+  pub stable_of_has : (i : ℕ) → Stable N T i → Stable N (λ j x. t j x ≡ true) i
+  stable_of_has i s x w = (
+    λ h. (decide i x w).1 ((s x w).0 ((decide (suc i) x w).0 h)),
+    λ h. (decide (suc i) x w).1 ((s x w).1 ((decide i x w).0 h)),
+  )
+
+  pub least_of_test : (i : ℕ) → LeastStable N (λ j x. t j x ≡ true) i → LeastStable N T i
+  least_of_test i l = record {
+    stable = λ x w. (
+      λ h. (decide i x w).0 ((l.stable x w).0 ((decide (suc i) x w).1 h)),
+      λ h. (decide (suc i) x w).0 ((l.stable x w).1 ((decide i x w).1 h)),
+    );
+    first = λ j k s. l.first j k (stable_of_has j s);
+  }

@@ -25,6 +25,10 @@ in_set holds (Some s) a = holds s a
 abbrev pub covers : {S : Type 0} → (S → ℕ → Bool) → List S → Pos → Bool
 covers holds sets x = in_set holds (slice_get sets x.place) x.setting
 
+-- The list has a set for each place.
+abbrev pub PerPlace : {S : Type 0} → Net → List S → Type 0
+PerPlace N sets = length sets ≡ places N
+
 -- The part of the main list for row r, of n places: the numbers r × n to r × n + n - 1.
 abbrev pub row_part : {S : Type 0} → ℕ → ℕ → List S → List S
 row_part n r main = between (r * n) (r * n + n) main

@@ -17,6 +17,10 @@ query_fits N rows r x =
 abbrev pub route_room : Net → List Row → ℕ → ℕ → ℕ → Bool
 route_room N rows main spare steps = nat_le (length rows * places N) main && (nat_le (2 * places N) spare && nat_le (places N + 1) steps)
 
+-- Why the question is refused: the table, else the question itself.
+abbrev pub query_refusal : Net → List Row → ℕ → Pos → Option Refusal
+query_refusal N rows r x = cond (accepted N.conditions rows) (cond (query_fits N rows r x) None (Some BadQuery)) (Some BadTable)
+
 -- Why it is refused without judging: the table, else the question, else the room.
 abbrev pub route_refusal : Net → List Row → ℕ → Pos → ℕ → ℕ → ℕ → Option Refusal
 route_refusal N rows r x main spare steps =

@@ -1,7 +1,7 @@
 // Walking a route that keeps to a set.
 ghost use Rattle.std.specs.Prelude.{◌≡◌, ◌+◌, ◌≤◌, [], map, length};
 ghost use Rattle.routing.specs.Net.{places};
-ghost use Rattle.judging.specs.Judged.{covers};
+ghost use Rattle.judging.specs.Judged.{covers, PerPlace};
 ghost use Rattle.judging.specs.Chosen.{index_of, walk_always};
 ghost use Rattle.judging.specs.Steps.{as_pos, Written};
 
@@ -14,9 +14,8 @@ use routing::network::Network;
 fn find_step(seen: &[RouteStep], at: RouteStep) -> Option<usize>
     ensures { result ≡ index_of (as_pos at) (map as_pos seen.now) }
 {
-    for i in 0..seen.len() {
-        let step = seen[i];
-        if (at.place == step.place) & (at.setting == step.setting) {
+    for (i, step) in seen.iter().enumerate() {
+        if at == *step {
             return Some(i);
         }
     }
@@ -30,10 +29,12 @@ pub(crate) fn walk_within<N: Network>(
     start: RouteStep,
     steps: &mut [RouteStep],
 ) -> Shown
-    requires over { (N.meaning net.now).conditions ≡ N.Set.ConditionSet.count }
-    requires long { length sets.now ≡ places (N.meaning net.now) }
+    requires sets { PerPlace (N.meaning net.now) sets.now }
     requires room { places (N.meaning net.now) + 1 ≤ length steps.old }
-    ensures { Written (walk_always (N.meaning net.now) (covers N.Set.ConditionSet.holds sets.now) (places (N.meaning net.now) + 1) [] (as_pos start)) steps.old steps.new result }
+    ensures { Written
+        (walk_always (N.meaning net.now) (covers N.Set.ConditionSet.holds sets.now) (places (N.meaning net.now) + 1) []
+        (as_pos start))
+        steps.old steps.new result }
 {
     let n = net.places();
     let mut at = start;

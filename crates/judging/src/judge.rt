@@ -1,5 +1,6 @@
 // Judging a network against a rule table.
-ghost use Rattle.std.specs.Prelude.{◌≡◌, ◌*◌, ◌≤◌, true, length, Some, None, MatchResult};
+ghost use Rattle.std.specs.Prelude.{◌≡◌, ◌*◌, ◌≤◌, true, length, IfOk, OnErr};
+ghost use Rattle.std.specs.Result.{result_err};
 ghost use Rattle.routing.specs.Net.{places};
 ghost use Rattle.tables.specs.Tables.{accepted};
 ghost use Rattle.judging.specs.Judged.{Judged, judge_refusal};
@@ -12,21 +13,22 @@ use tables::row::Row;
 use tables::table::{is_accepted, read_row};
 
 // Judges the rows in order; answers the sum of their rounds.
-fn judge_rows<N: Network>(
+pub(crate) fn judge_rows<N: Network>(
     net: &N,
     table: &[Row],
     main: &mut [N::Set],
     spare: &mut [N::Set],
 ) -> usize
     requires taken { accepted (N.meaning net.now).conditions table.now ≡ true }
-    requires room { (length table.now * places (N.meaning net.now) ≤ length main.old) × (2 * places (N.meaning net.now) ≤ length spare.old) }
+    requires room { length table.now * places (N.meaning net.now) ≤ length main.old }
+    requires halves { 2 * places (N.meaning net.now) ≤ length spare.old }
     ensures { Judged N.Set.ConditionSet.holds (N.meaning net.now) table.now main.old main.new result }
 {
     let conditions = net.conditions();
     let mut rounds = 0;
-    for row in 0..table.len() {
-        if let Some(op) = read_row(table[row], row, conditions) {
-            rounds += judge_row(net, op, row, main, spare);
+    for (number, row) in table.iter().enumerate() {
+        if let Some(op) = read_row(*row, number, conditions) {
+            rounds += judge_row(net, op, number, main, spare);
         }
     }
     rounds
@@ -42,7 +44,11 @@ pub fn judge<N: Network>(
     main: &mut [N::Set],
     spare: &mut [N::Set],
 ) -> Result<usize, Refusal>
-    ensures { MatchResult result (λ rounds. (judge_refusal (N.meaning net.now) table.now (length main.old) (length spare.old) ≡ None) × Judged N.Set.ConditionSet.holds (N.meaning net.now) table.now main.old main.new rounds) (λ e. (judge_refusal (N.meaning net.now) table.now (length main.old) (length spare.old) ≡ Some e) × (main.new ≡ main.old) × (spare.new ≡ spare.old)) }
+    ensures refusal { result_err result
+        ≡ judge_refusal (N.meaning net.now) table.now (length main.old) (length spare.old) }
+    ensures judged { IfOk result (Judged N.Set.ConditionSet.holds (N.meaning net.now) table.now main.old main.new) }
+    ensures main { OnErr result (main.new ≡ main.old) }
+    ensures spare { OnErr result (spare.new ≡ spare.old) }
 {
     if !is_accepted(table, net.conditions()) {
         return Err(Refusal::BadTable);

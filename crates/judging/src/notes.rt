@@ -1,40 +1,39 @@
 // Noting, round by round, when each place is first entered on the way to E[p U q].
-ghost use Rattle.std.specs.Prelude.{◌≡◌, ℕ, suc, ◌<◌, ◌≤◌, length, IfSome, slice_index};
+ghost use Rattle.std.specs.Prelude.{◌≡◌, ℕ, suc, ◌<◌, ◌≤◌, length, IfSome, None};
 ghost use Rattle.routing.specs.Net.{Within, places};
 ghost use Rattle.rounds.specs.Truth.{grown};
-ghost use Rattle.judging.specs.Judged.{covers};
+ghost use Rattle.judging.specs.Judged.{covers, PerPlace};
 ghost use Rattle.judging.specs.Chosen.{entering, least_from};
-ghost use Rattle.judging.specs.Notes.{never, round_at, setting_at, Noted};
+ghost use Rattle.judging.specs.Notes.{note_of, noted_at, Noted};
 ghost use Rattle.judging.specs.Steps.{as_pos};
 
+use crate::next::entry_at;
 use crate::row_rounds::steps_into;
-use crate::sets::grow;
+use crate::sets::{combine, widened};
 use crate::shown::RouteStep;
 use conditions::set::ConditionSet;
 use routing::network::Network;
 
-pub(crate) const NEVER: usize = 18446744073709551615;
+// The round in which a place was first entered, and the setting that was picked then.
+#[derive(Clone, Copy)]
+pub(crate) struct Note {
+    pub(crate) round: usize,
+    pub(crate) setting: u32,
+}
 
-// Notes the round and the picked setting of each place that is entered and was not noted before.
-fn note<N: Network>(
-    net: &N,
-    sets: &[N::Set],
-    round: usize,
-    rounds: &mut [usize],
-    settings: &mut [u32],
-)
-    requires over { (N.meaning net.now).conditions ≡ N.Set.ConditionSet.count }
-    requires long { length sets.now ≡ places (N.meaning net.now) }
-    requires room { (length sets.now ≤ length rounds.old) × (length sets.now ≤ length settings.old) }
-    ensures rounds { (t : ℕ) → t < length sets.now → slice_index rounds.new t ≡ round_at (slice_index rounds.old t) (entering (N.meaning net.now) (covers N.Set.ConditionSet.holds sets.now) t) round }
-    ensures settings { (t : ℕ) → t < length sets.now → slice_index settings.new t ≡ setting_at (slice_index rounds.old t) (slice_index settings.old t) (entering (N.meaning net.now) (covers N.Set.ConditionSet.holds sets.now) t) }
+// Notes each place that is entered and was not noted before.
+fn note_entered<N: Network>(net: &N, sets: &[N::Set], round: usize, notes: &mut [Option<Note>])
+    requires sets { PerPlace (N.meaning net.now) sets.now }
+    requires room { length sets.now ≤ length notes.old }
+    ensures { (t : ℕ) → t < length sets.now
+        → note_of notes.new t
+        ≡ noted_at (note_of notes.old t)
+        (entering (N.meaning net.now) (covers N.Set.ConditionSet.holds sets.now) t) round }
 {
-    for t in 0..sets.len() {
-        let set = sets[t];
-        if let Some(setting) = set.pick() {
-            if rounds[t] == NEVER {
-                rounds[t] = round;
-                settings[t] = setting;
+    for place in 0..sets.len() {
+        if notes[place].is_none() {
+            if let Some(setting) = entry_at(net, sets, place) {
+                notes[place] = Some(Note { round, setting });
             }
         }
     }
@@ -48,16 +47,20 @@ pub(crate) fn note_rounds<N: Network>(
     p: &[N::Set],
     into: &mut [N::Set],
     start: RouteStep,
-    rounds: &mut [usize],
-    settings: &mut [u32],
+    notes: &mut [Option<Note>],
 ) -> Option<usize>
-    requires over { (N.meaning net.now).conditions ≡ N.Set.ConditionSet.count }
-    requires lengths { (length part.old ≡ places (N.meaning net.now)) × ((length p.now ≡ places (N.meaning net.now)) × (length into.old ≡ places (N.meaning net.now))) }
-    requires room { (places (N.meaning net.now) ≤ length rounds.old) × (places (N.meaning net.now) ≤ length settings.old) }
+    requires part { PerPlace (N.meaning net.now) part.old }
+    requires p { PerPlace (N.meaning net.now) p.now }
+    requires into { PerPlace (N.meaning net.now) into.old }
+    requires room { places (N.meaning net.now) ≤ length notes.old }
     requires inside { Within (N.meaning net.now) (as_pos start) }
-    requires fresh { (t : ℕ) → t < places (N.meaning net.now) → slice_index rounds.old t ≡ never }
-    ensures hops { result ≡ least_from (suc (places (N.meaning net.now))) 0 (λ i. grown (N.meaning net.now) (covers N.Set.ConditionSet.holds p.now) (covers N.Set.ConditionSet.holds part.old) i (as_pos start)) }
-    ensures notes { IfSome result (λ d. Noted (N.meaning net.now) (grown (N.meaning net.now) (covers N.Set.ConditionSet.holds p.now) (covers N.Set.ConditionSet.holds part.old)) d rounds.new settings.new) }
+    requires fresh { (t : ℕ) → t < places (N.meaning net.now) → note_of notes.old t ≡ None }
+    ensures hops { result ≡ least_from (suc (places (N.meaning net.now))) 0
+        (λ i. grown (N.meaning net.now)
+        (covers N.Set.ConditionSet.holds p.now) (covers N.Set.ConditionSet.holds part.old) i (as_pos start)) }
+    ensures notes { IfSome result (λ d. Noted (N.meaning net.now)
+        (grown (N.meaning net.now) (covers N.Set.ConditionSet.holds p.now) (covers N.Set.ConditionSet.holds part.old))
+        d notes.new) }
 {
     let n = net.places();
     for round in 0..n + 1 {
@@ -65,9 +68,9 @@ pub(crate) fn note_rounds<N: Network>(
         if here.contains(start.setting) {
             return Some(round);
         }
-        note(net, part, round, rounds, settings);
+        note_entered(net, part, round, notes);
         steps_into(net, part, into);
-        let _ = grow(part, p, into);
+        let _ = combine(part, p, into, widened);
     }
     None
 }

@@ -1,20 +1,18 @@
 // Asking for a route that shows a row.
-ghost use Rattle.std.specs.Prelude.{◌≡◌, ◌^◌, ◌⊎◌, length, Some, None, MatchResult};
-ghost use Rattle.routing.specs.declared.refusal.Refusal.TheVariants.{RowFails};
-ghost use Rattle.routing.specs.Rules.{Means};
-ghost use Rattle.tables.specs.Tables.{rule_at};
-ghost use Rattle.judging.specs.Chosen.{chosen};
-ghost use Rattle.judging.specs.Queries.{route_refusal};
-ghost use Rattle.judging.specs.Shown.{Trail, Shows};
-ghost use Rattle.judging.specs.Steps.{as_pos, Written};
+ghost use Rattle.std.specs.Prelude.{◌≡◌, ◌^◌, length, IfOk, slice_index_or};
+ghost use Rattle.std.specs.Result.{result_err};
+ghost use Rattle.tables.specs.Tables.{coded, no_row};
+ghost use Rattle.judging.specs.Answers.{RouteAnswer};
+ghost use Rattle.judging.specs.Queries.{query_refusal};
+ghost use Rattle.judging.specs.Steps.{as_pos};
 
-use crate::judge::judge;
+use crate::judge::judge_rows;
 use crate::showing::{holds_at, show_row};
 use crate::shown::{RouteStep, Shown};
 use conditions::set::ConditionSet;
 use routing::network::Network;
 use routing::refusal::Refusal;
-use tables::row::Row;
+use tables::row::{Operation, Row};
 use tables::table::{is_accepted, read_row};
 
 // The number of settings.
@@ -24,33 +22,27 @@ fn settings<S: ConditionSet>() -> u32
     1 << S::conditions()
 }
 
-// Why the question is refused without judging, if it is.
-fn refused<N: Network>(
+// The operation of the asked row, which must be one about steps or routes, or why the question is refused.
+fn asked<N: Network>(
     net: &N,
     table: &[Row],
     row: usize,
     at: RouteStep,
-    main: usize,
-    spare: usize,
-    steps: usize,
-) -> Option<Refusal>
-    ensures { result ≡ route_refusal (N.meaning net.now) table.now row (as_pos at) main spare steps }
+) -> Result<Operation, Refusal>
+    ensures refusal { result_err result ≡ query_refusal (N.meaning net.now) table.now row (as_pos at) }
+    ensures row { IfOk result (λ op. coded op ≡ slice_index_or table.now row no_row) }
 {
-    if !is_accepted(table, net.conditions()) {
-        return Some(Refusal::BadTable);
+    let conditions = net.conditions();
+    if !is_accepted(table, conditions) {
+        return Err(Refusal::BadTable);
     }
-    let n = net.places();
-    if row >= table.len() {
-        return Some(Refusal::BadQuery);
+    if row >= table.len() || at.place >= net.places() || at.setting >= settings::<N::Set>() {
+        return Err(Refusal::BadQuery);
     }
-    let operation = table[row].operation;
-    if operation < 6 || operation > 8 || at.place >= n || at.setting >= settings::<N::Set>() {
-        return Some(Refusal::BadQuery);
+    match read_row(table[row], row, conditions) {
+        Some(op @ (Operation::Next(_) | Operation::Until(_, _) | Operation::Always(_))) => Ok(op),
+        _ => Err(Refusal::BadQuery),
     }
-    if main < table.len() * n || spare < 2 * n || steps < n + 1 {
-        return Some(Refusal::TooShort);
-    }
-    None
 }
 
 // Shows a route for row `row` of the table at a position, which must be a row of operation 6, 7 or 8.
@@ -66,15 +58,15 @@ pub fn route<N: Network>(
     spare: &mut [N::Set],
     steps: &mut [RouteStep],
 ) -> Result<Shown, Refusal>
-    ensures { MatchResult result (λ s. (route_refusal (N.meaning net.now) table.now row (as_pos at) (length main.old) (length spare.old) (length steps.old) ≡ None) × Written (chosen (N.meaning net.now) (rule_at table.now row) (as_pos at)) steps.old steps.new s × Trail (N.meaning net.now) (as_pos at) (chosen (N.meaning net.now) (rule_at table.now row) (as_pos at)).positions × Shows (N.meaning net.now) (rule_at table.now row) (as_pos at) (chosen (N.meaning net.now) (rule_at table.now row) (as_pos at)).positions s.ending) (λ e. (steps.new ≡ steps.old) × (((route_refusal (N.meaning net.now) table.now row (as_pos at) (length main.old) (length spare.old) (length steps.old) ≡ Some e) × (main.new ≡ main.old) × (spare.new ≡ spare.old)) ⊎ ((route_refusal (N.meaning net.now) table.now row (as_pos at) (length main.old) (length spare.old) (length steps.old) ≡ None) × (e ≡ RowFails) × (Means (N.meaning net.now) (rule_at table.now row) (as_pos at) → ⊥)))) }
+    ensures { RouteAnswer (N.meaning net.now) table.now row (as_pos at)
+        main.old main.new spare.old spare.new steps.old steps.new result }
 {
-    if let Some(refusal) = refused(net, table, row, at, main.len(), spare.len(), steps.len()) {
-        return Err(refusal);
+    let op = asked(net, table, row, at)?;
+    let n = net.places();
+    if main.len() < table.len() * n || spare.len() < 2 * n || steps.len() < n + 1 {
+        return Err(Refusal::TooShort);
     }
-    judge(net, table, main, spare)?;
-    let Some(op) = read_row(table[row], row, net.conditions()) else {
-        return Err(Refusal::BadTable);
-    };
+    let _ = judge_rows(net, table, main, spare);
     if !holds_at(net, main, row, at) {
         return Err(Refusal::RowFails);
     }

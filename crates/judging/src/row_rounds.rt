@@ -1,20 +1,26 @@
 // The rounds of a row: the settings with a step into given sets, and the two sequences that use them.
-ghost use Rattle.std.specs.Prelude.{◌≡◌, ℕ, ◌<◌, ◌≤◌, true, ◌⊎◌, length, Decides};
+ghost use Rattle.std.specs.Prelude.{◌≡◌, ℕ, ◌<◌, ◌≤◌, Bool, true, ◌⊎◌, length, Decides};
 ghost use Rattle.routing.specs.Net.{Pos, places, Rests};
 ghost use Rattle.routing.specs.Routes.{SomeNext};
 ghost use Rattle.rounds.specs.Claims.{Is};
-ghost use Rattle.rounds.specs.Rounds.{Grown, Kept, LeastStable, Decided};
-ghost use Rattle.judging.specs.Judged.{covers};
+ghost use Rattle.rounds.specs.Rounds.{Grown, Kept, Stable, LeastStable, Decided};
+ghost use Rattle.judging.specs.Judged.{covers, PerPlace};
+ghost use Rattle.judging.specs.Rules.{Makes, Turns};
 
-use crate::sets::{fill, grow, is_entered, shrink};
+use crate::sets::{combine, fill, is_entered, narrowed, widened};
 use conditions::set::ConditionSet;
 use routing::binding::Binding;
 use routing::network::Network;
 
 // Adds to `out` the settings under which one binding leads into the sets.
 fn forward<S: ConditionSet>(b: &Binding<S>, sets: &[S], out: &mut [S])
-    requires { (b.now.from < length out.old) × (b.now.to < length sets.now) }
-    ensures { (x : Pos) → x.place < length out.old → Decides (covers S.ConditionSet.holds out.new x) ((covers S.ConditionSet.holds out.old x ≡ true) ⊎ ((b.now.from ≡ x.place) × (S.ConditionSet.holds b.now.set x.setting ≡ true) × ((a : ℕ) × (covers S.ConditionSet.holds sets.now (record { place = b.now.to; setting = a }) ≡ true)))) }
+    requires from { b.now.from < length out.old }
+    requires to { b.now.to < length sets.now }
+    ensures { (x : Pos) → x.place < length out.old
+        → Decides (covers S.ConditionSet.holds out.new x)
+        ((covers S.ConditionSet.holds out.old x ≡ true)
+        ⊎ ((b.now.from ≡ x.place) × (S.ConditionSet.holds b.now.set x.setting ≡ true)
+        × ((a : ℕ) × (covers S.ConditionSet.holds sets.now (record { place = b.now.to; setting = a }) ≡ true)))) }
 {
     let to = b.to as usize;
     let target = sets[to];
@@ -27,9 +33,10 @@ fn forward<S: ConditionSet>(b: &Binding<S>, sets: &[S], out: &mut [S])
 
 // Writes for each place the settings under which some step leads into the sets.
 pub(crate) fn steps_into<N: Network>(net: &N, sets: &[N::Set], out: &mut [N::Set])
-    requires over { (N.meaning net.now).conditions ≡ N.Set.ConditionSet.count }
-    requires lengths { (length sets.now ≡ places (N.meaning net.now)) × (length out.old ≡ places (N.meaning net.now)) }
-    ensures { Decided (N.meaning net.now) (covers N.Set.ConditionSet.holds out.new) (SomeNext (N.meaning net.now) (Is (covers N.Set.ConditionSet.holds sets.now))) }
+    requires sets { PerPlace (N.meaning net.now) sets.now }
+    requires out { PerPlace (N.meaning net.now) out.old }
+    ensures { Decided (N.meaning net.now) (covers N.Set.ConditionSet.holds out.new)
+        (SomeNext (N.meaning net.now) (Is (covers N.Set.ConditionSet.holds sets.now))) }
 {
     fill(out, N::Set::none());
     for i in 0..net.bindings() {
@@ -39,6 +46,38 @@ pub(crate) fn steps_into<N: Network>(net: &N, sets: &[N::Set], out: &mut [N::Set
     }
 }
 
+// The rounds of a sequence of sets of positions: `part` has the first, and the rule makes the next of one, of `p`, and of the
+// positions with a step into it. Answers the first round that changes nothing; `part` then has the positions of that round.
+fn settle<N: Network, F: Fn(N::Set, N::Set, N::Set) -> N::Set + Copy>(
+    net: &N,
+    part: &mut [N::Set],
+    p: &[N::Set],
+    into: &mut [N::Set],
+    rule: F,
+) -> usize
+    requires callable { F.IsAlwaysCallable rule }
+    requires part { PerPlace (N.meaning net.now) part.old }
+    requires p { PerPlace (N.meaning net.now) p.now }
+    requires into { PerPlace (N.meaning net.now) into.old }
+    ensures few { result ≤ places (N.meaning net.now) }
+    ensures least { (f : Bool → Bool → Bool → Bool) (t : ℕ → Pos → Bool)
+        → Makes N.Set.ConditionSet.holds (F.post rule) f
+        → Turns (N.meaning net.now) f (covers N.Set.ConditionSet.holds p.now) t
+        → Decided (N.meaning net.now) (covers N.Set.ConditionSet.holds part.old) (Is (t 0))
+        → Stable (N.meaning net.now) (λ i. Is (t i)) (places (N.meaning net.now))
+        → LeastStable (N.meaning net.now) (λ i. Is (t i)) result
+        × Decided (N.meaning net.now) (covers N.Set.ConditionSet.holds part.new) (Is (t result)) }
+{
+    let n = net.places();
+    for round in 0..n {
+        steps_into(net, part, into);
+        if combine(part, p, into, rule) {
+            return round;
+        }
+    }
+    n
+}
+
 // The rounds of E[p U q]: `part` has q, and at the end the positions of the rule; answers the rounds.
 pub(crate) fn until_rounds<N: Network>(
     net: &N,
@@ -46,20 +85,18 @@ pub(crate) fn until_rounds<N: Network>(
     p: &[N::Set],
     into: &mut [N::Set],
 ) -> usize
-    requires over { (N.meaning net.now).conditions ≡ N.Set.ConditionSet.count }
-    requires lengths { (length part.old ≡ places (N.meaning net.now)) × ((length p.now ≡ places (N.meaning net.now)) × (length into.old ≡ places (N.meaning net.now))) }
+    requires part { PerPlace (N.meaning net.now) part.old }
+    requires p { PerPlace (N.meaning net.now) p.now }
+    requires into { PerPlace (N.meaning net.now) into.old }
     ensures few { result ≤ places (N.meaning net.now) }
-    ensures least { LeastStable (N.meaning net.now) (Grown (N.meaning net.now) (Is (covers N.Set.ConditionSet.holds p.now)) (Is (covers N.Set.ConditionSet.holds part.old))) result }
-    ensures after { Decided (N.meaning net.now) (covers N.Set.ConditionSet.holds part.new) (Grown (N.meaning net.now) (Is (covers N.Set.ConditionSet.holds p.now)) (Is (covers N.Set.ConditionSet.holds part.old)) result) }
+    ensures least { LeastStable (N.meaning net.now)
+        (Grown (N.meaning net.now) (Is (covers N.Set.ConditionSet.holds p.now)) (Is (covers N.Set.ConditionSet.holds part.old)))
+        result }
+    ensures after { Decided (N.meaning net.now) (covers N.Set.ConditionSet.holds part.new)
+        (Grown (N.meaning net.now) (Is (covers N.Set.ConditionSet.holds p.now)) (Is (covers N.Set.ConditionSet.holds part.old))
+        result) }
 {
-    let n = net.places();
-    for round in 0..n {
-        steps_into(net, part, into);
-        if grow(part, p, into) {
-            return round;
-        }
-    }
-    n
+    settle(net, part, p, into, widened)
 }
 
 // The rounds of EG p: `part` has p, and at the end the positions of the rule; answers the rounds.
@@ -69,19 +106,15 @@ pub(crate) fn always_rounds<N: Network>(
     rests: &[N::Set],
     into: &mut [N::Set],
 ) -> usize
-    requires over { (N.meaning net.now).conditions ≡ N.Set.ConditionSet.count }
-    requires lengths { (length part.old ≡ places (N.meaning net.now)) × ((length rests.now ≡ places (N.meaning net.now)) × (length into.old ≡ places (N.meaning net.now))) }
+    requires part { PerPlace (N.meaning net.now) part.old }
+    requires rests { PerPlace (N.meaning net.now) rests.now }
+    requires into { PerPlace (N.meaning net.now) into.old }
     requires rested { Decided (N.meaning net.now) (covers N.Set.ConditionSet.holds rests.now) (Rests (N.meaning net.now)) }
     ensures few { result ≤ places (N.meaning net.now) }
-    ensures least { LeastStable (N.meaning net.now) (Kept (N.meaning net.now) (Is (covers N.Set.ConditionSet.holds part.old))) result }
-    ensures after { Decided (N.meaning net.now) (covers N.Set.ConditionSet.holds part.new) (Kept (N.meaning net.now) (Is (covers N.Set.ConditionSet.holds part.old)) result) }
+    ensures least { LeastStable (N.meaning net.now)
+        (Kept (N.meaning net.now) (Is (covers N.Set.ConditionSet.holds part.old))) result }
+    ensures after { Decided (N.meaning net.now) (covers N.Set.ConditionSet.holds part.new)
+        (Kept (N.meaning net.now) (Is (covers N.Set.ConditionSet.holds part.old)) result) }
 {
-    let n = net.places();
-    for round in 0..n {
-        steps_into(net, part, into);
-        if shrink(part, rests, into) {
-            return round;
-        }
-    }
-    n
+    settle(net, part, rests, into, narrowed)
 }

@@ -1,7 +1,8 @@
 // Lists with a set for each place.
-ghost use Rattle.std.specs.Prelude.{◌≡◌, ℕ, ◌^◌, ◌<◌, true, false, not, ◌&&◌, ◌||◌, length, Decides, nat_lt};
+ghost use Rattle.std.specs.Prelude.{◌≡◌, ℕ, ◌^◌, ◌<◌, Bool, true, false, not, ◌&&◌, ◌||◌, length, Decides, nat_lt};
 ghost use Rattle.routing.specs.Net.{Pos};
 ghost use Rattle.judging.specs.Judged.{covers};
+ghost use Rattle.judging.specs.Rules.{Makes};
 
 use conditions::set::ConditionSet;
 
@@ -14,53 +15,67 @@ pub(crate) fn is_entered<S: ConditionSet>(set: &S) -> bool
 
 // Writes one set to every place.
 pub(crate) fn fill<S: ConditionSet>(sets: &mut [S], value: S)
-    ensures { (x : Pos) → x.place < length sets.old → covers S.ConditionSet.holds sets.new x ≡ S.ConditionSet.holds value x.setting }
+    ensures { (x : Pos) → x.place < length sets.old
+        → covers S.ConditionSet.holds sets.new x ≡ S.ConditionSet.holds value x.setting }
 {
-    for s in sets.iter_mut() {
-        *s = value;
+    // Not by `fill`, which clones: no law says that a clone of a set can not fail.
+    for set in sets.iter_mut() {
+        *set = value;
     }
 }
 
 // Writes the complement of each set.
 pub(crate) fn complement_all<S: ConditionSet>(sets: &mut [S])
-    ensures { (x : Pos) → x.place < length sets.old → covers S.ConditionSet.holds sets.new x ≡ (nat_lt x.setting (2 ^ S.ConditionSet.count) && not (covers S.ConditionSet.holds sets.old x)) }
+    ensures { (x : Pos) → x.place < length sets.old
+        → covers S.ConditionSet.holds sets.new x
+        ≡ (nat_lt x.setting (2 ^ S.ConditionSet.count) && not (covers S.ConditionSet.holds sets.old x)) }
 {
-    for i in 0..sets.len() {
-        let set = sets[i];
-        sets[i] = set.complement();
+    for set in sets.iter_mut() {
+        *set = set.complement();
     }
 }
 
-// Adds to each set what both others have; answers whether no set changed.
-pub(crate) fn grow<S: ConditionSet>(sets: &mut [S], of: &[S], with: &[S]) -> bool
-    requires { (length of.now ≡ length sets.old) × (length with.now ≡ length sets.old) }
-    ensures after { (x : Pos) → x.place < length sets.old → covers S.ConditionSet.holds sets.new x ≡ (covers S.ConditionSet.holds sets.old x || (covers S.ConditionSet.holds of.now x && covers S.ConditionSet.holds with.now x)) }
-    ensures same { Decides result ((x : Pos) → x.place < length sets.old → covers S.ConditionSet.holds sets.new x ≡ covers S.ConditionSet.holds sets.old x) }
+// The settings of a set, and those that both others have.
+pub(crate) fn widened<S: ConditionSet>(set: S, p: S, q: S) -> S
+    ensures { (a : ℕ) → S.ConditionSet.holds result a
+        ≡ (S.ConditionSet.holds set a || (S.ConditionSet.holds p a && S.ConditionSet.holds q a)) }
 {
-    let mut settled = true;
-    for i in 0..sets.len() {
-        let set = sets[i];
-        let (p, q) = (of[i], with[i]);
-        let wider = set.union(&p.intersection(&q));
-        settled = settled & wider.same_members(&set);
-        sets[i] = wider;
-    }
-    settled
+    set.union(&p.intersection(&q))
 }
 
-// Keeps of each set what at least one of the others has; answers whether no set changed.
-pub(crate) fn shrink<S: ConditionSet>(sets: &mut [S], one: &[S], other: &[S]) -> bool
-    requires { (length one.now ≡ length sets.old) × (length other.now ≡ length sets.old) }
-    ensures after { (x : Pos) → x.place < length sets.old → covers S.ConditionSet.holds sets.new x ≡ (covers S.ConditionSet.holds sets.old x && (covers S.ConditionSet.holds one.now x || covers S.ConditionSet.holds other.now x)) }
-    ensures same { Decides result ((x : Pos) → x.place < length sets.old → covers S.ConditionSet.holds sets.new x ≡ covers S.ConditionSet.holds sets.old x) }
+// The settings of a set that at least one of the others has.
+pub(crate) fn narrowed<S: ConditionSet>(set: S, p: S, q: S) -> S
+    ensures { (a : ℕ) → S.ConditionSet.holds result a
+        ≡ (S.ConditionSet.holds set a && (S.ConditionSet.holds p a || S.ConditionSet.holds q a)) }
+{
+    set.intersection(&p.union(&q))
+}
+
+// Writes to each place what the rule makes of its set and of those of the two others; answers whether no set changed.
+pub(crate) fn combine<S: ConditionSet, F: Fn(S, S, S) -> S + Copy>(
+    sets: &mut [S],
+    p: &[S],
+    q: &[S],
+    rule: F,
+) -> bool
+    requires callable { F.IsAlwaysCallable rule }
+    requires with_p { length p.now ≡ length sets.old }
+    requires with_q { length q.now ≡ length sets.old }
+    ensures after { (f : Bool → Bool → Bool → Bool) → Makes S.ConditionSet.holds (F.post rule) f
+        → (x : Pos) → x.place < length sets.old
+        → covers S.ConditionSet.holds sets.new x
+        ≡ f (covers S.ConditionSet.holds sets.old x)
+        (covers S.ConditionSet.holds p.now x) (covers S.ConditionSet.holds q.now x) }
+    ensures same { Decides result ((x : Pos) → x.place < length sets.old
+        → covers S.ConditionSet.holds sets.new x ≡ covers S.ConditionSet.holds sets.old x) }
 {
     let mut settled = true;
+    // By number, since nothing is known of elements that an iterator over several lists lends for writing.
     for i in 0..sets.len() {
-        let set = sets[i];
-        let (p, q) = (one[i], other[i]);
-        let narrower = set.intersection(&p.union(&q));
-        settled = settled & narrower.same_members(&set);
-        sets[i] = narrower;
+        let before = sets[i];
+        let after = rule(before, p[i], q[i]);
+        settled = settled & after.same_members(&before);
+        sets[i] = after;
     }
     settled
 }

@@ -3,13 +3,13 @@ ghost use Rattle.std.specs.Prelude.{◌≡◌, ◌+◌, ◌*◌, ◌<◌, ◌≤
 ghost use Rattle.routing.specs.Net.{Within, places};
 ghost use Rattle.tables.specs.Tables.{coded};
 ghost use Rattle.judging.specs.Chosen.{chosen_next, chosen_until, next_in};
-ghost use Rattle.judging.specs.Judged.{covers, row_part};
+ghost use Rattle.judging.specs.Judged.{covers, row_part, PerPlace};
 ghost use Rattle.judging.specs.Shapes.{first_is_row, second_is_row};
 ghost use Rattle.judging.specs.Steps.{as_pos, chosen_by, Written};
 
 use crate::always::walk_within;
 use crate::next::next_into;
-use crate::notes::{NEVER, note_rounds};
+use crate::notes::note_rounds;
 use crate::shown::{Ending, RouteStep, Shown};
 use crate::until::walk_down;
 use crate::work::copy_operand;
@@ -19,15 +19,16 @@ use tables::row::Operation;
 
 // Shows one step into the sets.
 fn show_next<N: Network>(net: &N, sets: &[N::Set], at: RouteStep, steps: &mut [RouteStep]) -> Shown
-    requires over { (N.meaning net.now).conditions ≡ N.Set.ConditionSet.count }
-    requires long { length sets.now ≡ places (N.meaning net.now) }
+    requires sets { PerPlace (N.meaning net.now) sets.now }
     requires room { 2 ≤ length steps.old }
-    ensures { Written (chosen_next (as_pos at) (next_in (N.meaning net.now) (covers N.Set.ConditionSet.holds sets.now) (as_pos at))) steps.old steps.new result }
+    ensures { Written
+        (chosen_next (as_pos at) (next_in (N.meaning net.now) (covers N.Set.ConditionSet.holds sets.now) (as_pos at)))
+        steps.old steps.new result }
 {
     steps[0] = at;
     match next_into(net, sets, at) {
         Some(next) => {
-            if (next.place == at.place) & (next.setting == at.setting) {
+            if next == at {
                 return Shown {
                     count: 1,
                     ending: Ending::Returns(0),
@@ -55,16 +56,19 @@ fn walk_until<N: Network>(
     at: RouteStep,
     steps: &mut [RouteStep],
 ) -> Shown
-    requires over { (N.meaning net.now).conditions ≡ N.Set.ConditionSet.count }
-    requires lengths { (length part.old ≡ places (N.meaning net.now)) × ((length p.now ≡ places (N.meaning net.now)) × (length into.old ≡ places (N.meaning net.now))) }
+    requires part { PerPlace (N.meaning net.now) part.old }
+    requires p { PerPlace (N.meaning net.now) p.now }
+    requires into { PerPlace (N.meaning net.now) into.old }
     requires inside { Within (N.meaning net.now) (as_pos at) }
     requires room { places (N.meaning net.now) + 1 ≤ length steps.old }
-    ensures { Written (chosen_until (N.meaning net.now) (covers N.Set.ConditionSet.holds p.now) (covers N.Set.ConditionSet.holds part.old) (as_pos at)) steps.old steps.new result }
+    ensures { Written
+        (chosen_until (N.meaning net.now)
+        (covers N.Set.ConditionSet.holds p.now) (covers N.Set.ConditionSet.holds part.old) (as_pos at))
+        steps.old steps.new result }
 {
-    let mut rounds = [NEVER; 256];
-    let mut settings = [0u32; 256];
-    match note_rounds(net, part, p, into, at, &mut rounds, &mut settings) {
-        Some(hops) => walk_down(net, &rounds, &settings, at, hops, steps),
+    let mut notes = [None; 256];
+    match note_rounds(net, part, p, into, at, &mut notes) {
+        Some(hops) => walk_down(net, &notes, at, hops, steps),
         None => Shown {
             count: 0,
             ending: Ending::Reaches,
@@ -83,11 +87,17 @@ fn show_until<N: Network>(
     spare: &mut [N::Set],
     steps: &mut [RouteStep],
 ) -> Shown
-    requires over { (N.meaning net.now).conditions ≡ N.Set.ConditionSet.count }
-    requires earlier { (p < row) × (q < row) }
+    requires first { p < row }
+    requires second { q < row }
     requires inside { Within (N.meaning net.now) (as_pos at) }
-    requires room { (row * places (N.meaning net.now) + places (N.meaning net.now) ≤ length main.old) × ((2 * places (N.meaning net.now) ≤ length spare.old) × (places (N.meaning net.now) + 1 ≤ length steps.old)) }
-    ensures { Written (chosen_until (N.meaning net.now) (covers N.Set.ConditionSet.holds (row_part (places (N.meaning net.now)) p main.old)) (covers N.Set.ConditionSet.holds (row_part (places (N.meaning net.now)) q main.old)) (as_pos at)) steps.old steps.new result }
+    requires room { row * places (N.meaning net.now) + places (N.meaning net.now) ≤ length main.old }
+    requires halves { 2 * places (N.meaning net.now) ≤ length spare.old }
+    requires list { places (N.meaning net.now) + 1 ≤ length steps.old }
+    ensures { Written
+        (chosen_until (N.meaning net.now)
+        (covers N.Set.ConditionSet.holds (row_part (places (N.meaning net.now)) p main.old))
+        (covers N.Set.ConditionSet.holds (row_part (places (N.meaning net.now)) q main.old)) (as_pos at))
+        steps.old steps.new result }
 {
     let n = net.places();
     let (first, rest) = spare.split_at_mut(n);
@@ -129,11 +139,18 @@ pub(crate) fn show_row<N: Network>(
     spare: &mut [N::Set],
     steps: &mut [RouteStep],
 ) -> Shown
-    requires over { (N.meaning net.now).conditions ≡ N.Set.ConditionSet.count }
-    requires earlier { (first_is_row op ≡ true → (coded op).first < row) × (second_is_row op ≡ true → (coded op).second < row) }
+    requires first { first_is_row op ≡ true → (coded op).first < row }
+    requires second { second_is_row op ≡ true → (coded op).second < row }
     requires inside { Within (N.meaning net.now) (as_pos at) }
-    requires room { (row * places (N.meaning net.now) + places (N.meaning net.now) ≤ length main.old) × ((2 * places (N.meaning net.now) ≤ length spare.old) × (places (N.meaning net.now) + 1 ≤ length steps.old)) }
-    ensures { Written (chosen_by (N.meaning net.now) op (covers N.Set.ConditionSet.holds (row_part (places (N.meaning net.now)) (coded op).first main.old)) (covers N.Set.ConditionSet.holds (row_part (places (N.meaning net.now)) (coded op).second main.old)) (covers N.Set.ConditionSet.holds (row_part (places (N.meaning net.now)) row main.old)) (as_pos at)) steps.old steps.new result }
+    requires room { row * places (N.meaning net.now) + places (N.meaning net.now) ≤ length main.old }
+    requires halves { 2 * places (N.meaning net.now) ≤ length spare.old }
+    requires list { places (N.meaning net.now) + 1 ≤ length steps.old }
+    ensures { Written
+        (chosen_by (N.meaning net.now) op
+        (covers N.Set.ConditionSet.holds (row_part (places (N.meaning net.now)) (coded op).first main.old))
+        (covers N.Set.ConditionSet.holds (row_part (places (N.meaning net.now)) (coded op).second main.old))
+        (covers N.Set.ConditionSet.holds (row_part (places (N.meaning net.now)) row main.old)) (as_pos at))
+        steps.old steps.new result }
 {
     let n = net.places();
     match op {

@@ -5,41 +5,33 @@ ghost use Rattle.routing.specs.Net.{Pos, Rests, places};
 ghost use Rattle.rounds.specs.Claims.{Is};
 ghost use Rattle.rounds.specs.Rounds.{Decided};
 ghost use Rattle.tables.specs.Tables.{coded};
-ghost use Rattle.judging.specs.Judged.{covers, row_part};
+ghost use Rattle.judging.specs.Judged.{covers, row_part, PerPlace};
 ghost use Rattle.judging.specs.Shapes.{Shape, Rounds, Named, first_is_row, second_is_row};
 
 use crate::row_rounds::{always_rounds, steps_into, until_rounds};
-use crate::sets::{complement_all, fill, grow, shrink};
+use crate::sets::{combine, complement_all, fill, narrowed, widened};
 use conditions::set::ConditionSet;
-use routing::network::Network;
+use routing::network::{Network, has_mark};
 use tables::row::Operation;
-
-// Whether a place has mark k.
-fn has_mark<N: Network>(net: &N, place: usize, k: u8) -> bool
-    requires { k < 32 }
-    ensures { result ≡ bit (slice_index (N.meaning net.now).marks place) k }
-{
-    match net.marks(place) {
-        Some(marks) => marks >> k & 1 == 1,
-        None => false,
-    }
-}
 
 // Writes all settings to the places with mark k, and none to the others.
 fn write_mark<N: Network>(net: &N, k: u8, part: &mut [N::Set])
     requires { k < 32 }
-    ensures { (x : Pos) → x.place < length part.old → covers N.Set.ConditionSet.holds part.new x ≡ (bit (slice_index (N.meaning net.now).marks x.place) k && nat_lt x.setting (2 ^ N.Set.ConditionSet.count)) }
+    ensures { (x : Pos) → x.place < length part.old
+        → covers N.Set.ConditionSet.holds part.new x
+        ≡ (bit (slice_index (N.meaning net.now).marks x.place) k && nat_lt x.setting (2 ^ N.Set.ConditionSet.count)) }
 {
     let (all, none) = (N::Set::all(), N::Set::none());
-    for i in 0..part.len() {
-        part[i] = if has_mark(net, i, k) { all } else { none };
+    for place in 0..part.len() {
+        part[place] = if has_mark(net, place, k) { all } else { none };
     }
 }
 
 // Writes the settings with condition k on to every place.
 fn write_condition<S: ConditionSet>(part: &mut [S], k: u8)
     requires { k < S.ConditionSet.count }
-    ensures { (x : Pos) → x.place < length part.old → x.setting < 2 ^ S.ConditionSet.count → covers S.ConditionSet.holds part.new x ≡ bit x.setting k }
+    ensures { (x : Pos) → x.place < length part.old → x.setting < 2 ^ S.ConditionSet.count
+        → covers S.ConditionSet.holds part.new x ≡ bit x.setting k }
 {
     if let Some(on) = S::with_condition(u32::from(k)) {
         fill(part, on);
@@ -48,8 +40,8 @@ fn write_condition<S: ConditionSet>(part: &mut [S], k: u8)
 
 // Writes the settings under which no step leads from a place; `part` is used on the way.
 fn write_rests<N: Network>(net: &N, part: &mut [N::Set], out: &mut [N::Set])
-    requires over { (N.meaning net.now).conditions ≡ N.Set.ConditionSet.count }
-    requires lengths { (length part.old ≡ places (N.meaning net.now)) × (length out.old ≡ places (N.meaning net.now)) }
+    requires part { PerPlace (N.meaning net.now) part.old }
+    requires out { PerPlace (N.meaning net.now) out.old }
     ensures { Decided (N.meaning net.now) (covers N.Set.ConditionSet.holds out.new) (Rests (N.meaning net.now)) }
 {
     fill(part, N::Set::all());
@@ -65,12 +57,16 @@ fn work_row<N: Network>(
     first: &mut [N::Set],
     second: &mut [N::Set],
 ) -> usize
-    requires over { (N.meaning net.now).conditions ≡ N.Set.ConditionSet.count }
-    requires lengths { (length part.old ≡ places (N.meaning net.now)) × ((length first.old ≡ places (N.meaning net.now)) × (length second.old ≡ places (N.meaning net.now))) }
+    requires part { PerPlace (N.meaning net.now) part.old }
+    requires first { PerPlace (N.meaning net.now) first.old }
+    requires second { PerPlace (N.meaning net.now) second.old }
     requires named { Named N.Set.ConditionSet.count op }
     ensures few { result ≤ places (N.meaning net.now) }
-    ensures written { Decided (N.meaning net.now) (covers N.Set.ConditionSet.holds part.new) (Shape (N.meaning net.now) op (Is (covers N.Set.ConditionSet.holds first.old)) (Is (covers N.Set.ConditionSet.holds second.old))) }
-    ensures counted { Rounds (N.meaning net.now) op (Is (covers N.Set.ConditionSet.holds first.old)) (Is (covers N.Set.ConditionSet.holds second.old)) result }
+    ensures written { Decided (N.meaning net.now) (covers N.Set.ConditionSet.holds part.new)
+        (Shape (N.meaning net.now) op
+        (Is (covers N.Set.ConditionSet.holds first.old)) (Is (covers N.Set.ConditionSet.holds second.old))) }
+    ensures counted { Rounds (N.meaning net.now) op
+        (Is (covers N.Set.ConditionSet.holds first.old)) (Is (covers N.Set.ConditionSet.holds second.old)) result }
 {
     match op {
         Operation::Yes => {
@@ -92,12 +88,12 @@ fn work_row<N: Network>(
         }
         Operation::And(_, _) => {
             part.copy_from_slice(first);
-            let _ = shrink(part, second, second);
+            let _ = combine(part, second, second, narrowed);
             0
         }
         Operation::Or(_, _) => {
             part.copy_from_slice(first);
-            let _ = grow(part, second, second);
+            let _ = combine(part, second, second, widened);
             0
         }
         Operation::Next(_) => {
@@ -123,12 +119,8 @@ fn operands(op: Operation) -> (Option<u8>, Option<u8>)
 {
     match op {
         Operation::Yes | Operation::Mark(_) | Operation::Condition(_) => (None, None),
-        Operation::Not(p) => (Some(p), None),
-        Operation::Next(p) => (Some(p), None),
-        Operation::Always(p) => (Some(p), None),
-        Operation::And(p, q) => (Some(p), Some(q)),
-        Operation::Or(p, q) => (Some(p), Some(q)),
-        Operation::Until(p, q) => (Some(p), Some(q)),
+        Operation::Not(p) | Operation::Next(p) | Operation::Always(p) => (Some(p), None),
+        Operation::And(p, q) | Operation::Or(p, q) | Operation::Until(p, q) => (Some(p), Some(q)),
     }
 }
 
@@ -157,15 +149,24 @@ pub(crate) fn judge_row<N: Network>(
     main: &mut [N::Set],
     spare: &mut [N::Set],
 ) -> usize
-    requires over { (N.meaning net.now).conditions ≡ N.Set.ConditionSet.count }
     requires named { Named N.Set.ConditionSet.count op }
-    requires earlier { (first_is_row op ≡ true → (coded op).first < row) × (second_is_row op ≡ true → (coded op).second < row) }
-    requires room { (row * places (N.meaning net.now) + places (N.meaning net.now) ≤ length main.old) × (2 * places (N.meaning net.now) ≤ length spare.old) }
+    requires first { first_is_row op ≡ true → (coded op).first < row }
+    requires second { second_is_row op ≡ true → (coded op).second < row }
+    requires room { row * places (N.meaning net.now) + places (N.meaning net.now) ≤ length main.old }
+    requires halves { 2 * places (N.meaning net.now) ≤ length spare.old }
     ensures few { result ≤ places (N.meaning net.now) }
     ensures before { take (row * places (N.meaning net.now)) main.new ≡ take (row * places (N.meaning net.now)) main.old }
-    ensures behind { drop (row * places (N.meaning net.now) + places (N.meaning net.now)) main.new ≡ drop (row * places (N.meaning net.now) + places (N.meaning net.now)) main.old }
-    ensures written { Decided (N.meaning net.now) (covers N.Set.ConditionSet.holds (row_part (places (N.meaning net.now)) row main.new)) (Shape (N.meaning net.now) op (Is (covers N.Set.ConditionSet.holds (row_part (places (N.meaning net.now)) (coded op).first main.old))) (Is (covers N.Set.ConditionSet.holds (row_part (places (N.meaning net.now)) (coded op).second main.old)))) }
-    ensures counted { Rounds (N.meaning net.now) op (Is (covers N.Set.ConditionSet.holds (row_part (places (N.meaning net.now)) (coded op).first main.old))) (Is (covers N.Set.ConditionSet.holds (row_part (places (N.meaning net.now)) (coded op).second main.old))) result }
+    ensures behind { drop (row * places (N.meaning net.now) + places (N.meaning net.now)) main.new
+        ≡ drop (row * places (N.meaning net.now) + places (N.meaning net.now)) main.old }
+    ensures written { Decided (N.meaning net.now)
+        (covers N.Set.ConditionSet.holds (row_part (places (N.meaning net.now)) row main.new))
+        (Shape (N.meaning net.now) op
+        (Is (covers N.Set.ConditionSet.holds (row_part (places (N.meaning net.now)) (coded op).first main.old)))
+        (Is (covers N.Set.ConditionSet.holds (row_part (places (N.meaning net.now)) (coded op).second main.old)))) }
+    ensures counted { Rounds (N.meaning net.now) op
+        (Is (covers N.Set.ConditionSet.holds (row_part (places (N.meaning net.now)) (coded op).first main.old)))
+        (Is (covers N.Set.ConditionSet.holds (row_part (places (N.meaning net.now)) (coded op).second main.old)))
+        result }
 {
     let n = net.places();
     let (p, q) = operands(op);

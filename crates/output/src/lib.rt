@@ -1,8 +1,10 @@
 // Writing bytes and decimal numbers into a list that the caller lends for output.
 #![tactic(auto)]
 
-ghost use Rattle.std.specs.Prelude.{◌≡◌, ◌≤◌, drop, decimal};
+ghost use Rattle.std.specs.Prelude.{decimal};
 ghost use Rattle.output.specs.Put.{PutAnswer};
+
+use itoa::Buffer;
 
 // Writes the bytes to `out` from number `at` on, and answers the number behind them; absent, and nothing is written,
 // where they do not fit.
@@ -17,31 +19,10 @@ pub fn put(out: &mut [u8], at: usize, bytes: &[u8]) -> Option<usize>
     Some(next)
 }
 
-// The digits of the largest number.
-const MOST_DIGITS: usize = 20;
-
-// Writes the digits of a number to the end of `digits`, and answers the number of the first one there.
-fn spell(digits: &mut [u8; 20], n: usize) -> usize
-    ensures inside { result ≤ 20 }
-    ensures spelled { drop result digits.new ≡ decimal n }
-{
-    let mut rest = n;
-    let mut first = MOST_DIGITS;
-    loop {
-        first -= 1;
-        digits[first] = b'0' + (rest % 10) as u8;
-        if rest < 10 {
-            return first;
-        }
-        rest /= 10;
-    }
-}
-
 // Writes a number in decimal, as `put` writes bytes.
 pub fn put_decimal(out: &mut [u8], at: usize, n: usize) -> Option<usize>
     ensures { PutAnswer out.old at (decimal n) out.new result }
 {
-    let mut digits = [0; MOST_DIGITS];
-    let first = spell(&mut digits, n);
-    put(out, at, &digits[first..MOST_DIGITS])
+    let mut buffer = Buffer::new();
+    put(out, at, buffer.format(n).as_bytes())
 }

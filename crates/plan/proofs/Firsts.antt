@@ -1,7 +1,8 @@
 -- The first fault of a run of tests: a test that fails decides, one that passes is gone past.
-use Rattle.std.proofs.Common.{◌≡◌, ℕ, suc, ◌+◌, ◌-◌, ◌<◌, ◌≤◌, Bool, true, false, not, eqb, ltb, ◌⊎◌, List, [], ◌∷◌, is_some, Some, None, Option, sym, refl, ap, ◌∙◌, inl, inr, arith}
+use Rattle.std.proofs.Common.{◌≡◌, ℕ, suc, ◌+◌, ◌-◌, ◌<◌, ◌≤◌, Bool, true, false, not, eqb, ltb, ◌⊎◌, List, [], ◌∷◌, is_some, Some, None, Ok, Err, Option, Result, sym, refl, ap, ◌∙◌, inl, inr, arith}
 use Rattle.std.proofs.lemmas.Bool.{eq-eqb, eqb-true, le-ltb, lt-ltb, ltb-false, ltb-true, not-false}
 use Rattle.std.specs.Option.{option_or}
+use Rattle.std.specs.Result.{result_err, IsErrAnd}
 use Rattle.plan.specs.declared.fault.FileFault.{FileFault}
 use Rattle.plan.specs.declared.fault.FileFaultKind.{FileFaultKind}
 use Rattle.plan.specs.declared.fault.FileFaultKind.TheVariants.{BadContents, NoPlace, OverLimit}
@@ -32,6 +33,11 @@ stop_first a b r is some = ap (λ (o : Option _). option_or o b) (sym is) ∙ or
 
 pub pass_first : {T : Type 0} (a b r : Option T) → r ≡ a → is_some r ≡ false → option_or a b ≡ b
 pass_first a b r is none = ap (λ (o : Option _). option_or o b) (sym is) ∙ or_none r b none
+
+-- What `?` hands on is the fault that a test answered.
+pub err_of : {T E : Type 0} (r : Result T E) (e : E) (f : Option E) → IsErrAnd r (λ x. x ≡ e) → Some e ≡ f → result_err r ≡ f
+err_of (Ok x) e f h is = absurd h
+err_of (Err x) e f h is = ap Some h ∙ is
 
 -- The fault of the ends of binding i.
 abbrev pub ends_of : List ℕ → ℕ → Option FileFault

@@ -1,47 +1,49 @@
 -- The limits on texts: what the tests come to.
-use Rattle.std.proofs.Common.{◌≡◌, ℕ, ◌+◌, ◌<◌, ◌≤◌, ltb, List, [], ◌∷◌, length, Some, None, Option, refl, ap, ◌∙◌, ⊎_elim, arith}
-use Rattle.std.proofs.lemmas.Bool.{cases_lt, cond-true, cond-false, lt-ltb, le-ltb}
+use Rattle.std.proofs.Common.{◌≡◌, ℕ, ◌+◌, ◌≤◌, not, leb, ltb, List, [], ◌∷◌, length, Some, None, sym, refl, ap, ◌∙◌, arith}
+use Rattle.std.proofs.lemmas.Bool.{ltb-false}
+use Rattle.std.proofs.lemmas.Bool.Decides.{nat_tests}
+use Rattle.std.specs.Option.{option_or}
 use Rattle.plan.specs.declared.fault.FileFault.{FileFault}
 use Rattle.plan.specs.declared.fault.FileFaultKind.TheVariants.{OverLimit}
-use Rattle.plan.specs.Faults.{file_fault}
-use Rattle.plan.specs.Shape.{first_fault}
+use Rattle.plan.specs.Shape.{faulty}
 use Rattle.plan.specs.Writing.{long_fault, texts_fault}
+use Rattle.plan.proofs.Firsts.{faulty_none, or_end, or_nones}
 
--- Of two tests the first is decided.
-first_of : (o : Option FileFault) → first_fault (None ∷ o ∷ []) ≡ o
-first_of None = refl
-first_of (Some f) = refl
+-- The test of a limit, as the code and as the definitions have it.
+not_leb : (n limit : ℕ) → not (leb n limit) ≡ ltb limit n
+not_leb n limit = grind (arith, nat_tests)
 
-first_here : (f : FileFault) (o : Option FileFault) → first_fault (Some f ∷ o ∷ []) ≡ Some f
-first_here f o = refl
+pub limit_test : (n limit byte : ℕ) → faulty (not (leb n limit)) OverLimit byte ≡ faulty (ltb limit n) OverLimit byte
+limit_test n limit byte = ap (λ t. faulty t OverLimit byte) (not_leb n limit)
 
-pub many_texts : (start : ℕ) (texts : List (List ℕ)) → 8 < length texts → texts_fault start texts ≡ Some (file_fault OverLimit 18)
-many_texts start texts many =
-    ap (λ (o : Option FileFault). first_fault (o ∷ long_fault start texts ∷ [])) (cond-true (ltb 8 (length texts)) (Some (file_fault OverLimit 18)) None (lt-ltb 8 (length texts) many))
-    ∙ first_here (file_fault OverLimit 18) (long_fault start texts)
+pub many_texts : (start : ℕ) (texts : List (List ℕ)) (f : FileFault) → Some f ≡ faulty (ltb 8 (length texts)) OverLimit 18 → Some f ≡ texts_fault start texts
+many_texts start texts f is = ap (λ o. option_or o (option_or (long_fault start texts) None)) is
 
-pub few_texts : (start : ℕ) (texts : List (List ℕ)) → length texts ≤ 8 → texts_fault start texts ≡ long_fault start texts
-few_texts start texts few =
-    ap (λ (o : Option FileFault). first_fault (o ∷ long_fault start texts ∷ [])) (cond-false (ltb 8 (length texts)) (Some (file_fault OverLimit 18)) None (le-ltb 8 (length texts) few))
-    ∙ first_of (long_fault start texts)
+pub few_texts : (start : ℕ) (texts : List (List ℕ)) → None ≡ faulty (ltb 8 (length texts)) OverLimit 18 → long_fault start texts ≡ texts_fault start texts
+few_texts start texts is = sym (or_end (long_fault start texts)) ∙ ap (λ o. option_or o (option_or (long_fault start texts) None)) is
 
-pub long_here : (byte : ℕ) (t : List ℕ) (ts : List (List ℕ)) → 200 < length t → long_fault byte (t ∷ ts) ≡ Some (file_fault OverLimit byte)
+pub long_here : (byte : ℕ) (t : List ℕ) (ts : List (List ℕ)) (f : FileFault) → Some f ≡ faulty (ltb 200 (length t)) OverLimit byte
+    → Some f ≡ long_fault byte (t ∷ ts)
 unfolding long_fault
-long_here byte t ts long =
-    ap (λ (o : Option FileFault). first_fault (o ∷ long_fault (byte + (2 + length t)) ts ∷ [])) (cond-true (ltb 200 (length t)) (Some (file_fault OverLimit byte)) None (lt-ltb 200 (length t) long))
-    ∙ first_here (file_fault OverLimit byte) (long_fault (byte + (2 + length t)) ts)
+long_here byte t ts f is = ap (λ o. option_or o (option_or (long_fault (byte + (2 + length t)) ts) None)) is
 
-pub long_next : (byte : ℕ) (t : List ℕ) (ts : List (List ℕ)) → length t ≤ 200 → long_fault byte (t ∷ ts) ≡ long_fault (byte + (2 + length t)) ts
+pub long_next : (byte : ℕ) (t : List ℕ) (ts : List (List ℕ)) → None ≡ faulty (ltb 200 (length t)) OverLimit byte
+    → long_fault (byte + (2 + length t)) ts ≡ long_fault byte (t ∷ ts)
 unfolding long_fault
-long_next byte t ts short =
-    ap (λ (o : Option FileFault). first_fault (o ∷ long_fault (byte + (2 + length t)) ts ∷ [])) (cond-false (ltb 200 (length t)) (Some (file_fault OverLimit byte)) None (le-ltb 200 (length t) short))
-    ∙ first_of (long_fault (byte + (2 + length t)) ts)
+long_next byte t ts is =
+    let rest = long_fault (byte + (2 + length t)) ts in
+    sym (or_end rest) ∙ ap (λ o. option_or o (option_or rest None)) is
 
 pub long_none : (byte : ℕ) → long_fault byte [] ≡ None
 unfolding long_fault
 long_none byte = refl
 
+-- A text that is not too long.
+pub not_long : (byte n : ℕ) → None ≡ faulty (ltb 200 n) OverLimit byte → n ≤ 200
+not_long byte n is = ltb-false 200 n (faulty_none (ltb 200 n) OverLimit byte (sym is))
+
 -- Where no limit is passed there are at most eight texts.
 pub few_from_none : (start : ℕ) (texts : List (List ℕ)) → texts_fault start texts ≡ None → length texts ≤ 8
 few_from_none start texts none =
-    ⊎_elim (λ many. let over = many_texts start texts many in let z : ◌≡◌ {A = ℕ} 0 1 = cc in absurd (omega arith)) (λ few. few) (cases_lt 8 (length texts))
+    ltb-false 8 (length texts)
+    (faulty_none (ltb 8 (length texts)) OverLimit 18 (or_nones (faulty (ltb 8 (length texts)) OverLimit 18) (option_or (long_fault start texts) None) none).0)

@@ -19,9 +19,9 @@ pub file_fits : (f : PlanFile) → Fits (file_meaning f)
 file_fits f =
     let places = length_listed (place_count (file_bytes f)) (mark_at (file_bytes f)) in
     let bindings = length_listed (binding_count (file_bytes f)) (binding_at (file_bytes f)) in
-    let few_places = f.few_places in
-    let few_bindings = f.few_bindings in
-    let places_are = f.places_are in
-    let bindings_are = f.bindings_are in
+    let few_places = f.file.few_places in
+    let few_bindings = f.file.few_bindings in
+    let places_are = f.file.places_are in
+    let bindings_are = f.file.bindings_are in
     lists_fit 6 word_holds (file_plan f).marks (file_plan f).records (omega arith) (omega arith)
-    (subst (λ (n : ℕ). all_inside n (file_plan f).records ≡ true) (sym places) f.ends)
+    (subst (λ (n : ℕ). all_inside n (file_plan f).records ≡ true) (sym places) f.file.ends)

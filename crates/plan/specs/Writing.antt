@@ -10,6 +10,7 @@ use Rattle.rule_text.specs.declared.fault.Fault.{Fault}
 use Rattle.rule_text.specs.Reading.{Reading}
 use Rattle.plan.specs.declared.fault.FileFault.{FileFault}
 use Rattle.plan.specs.declared.fault.FileFaultKind.TheVariants.{OverLimit}
+use Rattle.plan.specs.declared.fault.PlanFault.{PlanFault}
 use Rattle.plan.specs.declared.fault.PlanFault.TheVariants.{InFile, InText}
 use Rattle.plan.specs.declared.fault.WriteFault.{WriteFault}
 use Rattle.plan.specs.declared.fault.WriteFault.TheVariants.{BadPlan, TooShort}
@@ -49,6 +50,11 @@ pub record FirstBad (texts : List (List ℕ)) (i : ℕ) (fault : Fault) : Type 0
   pub here : slice_get texts i ≡ Some text
   pub refused : Reading 6 text (Err fault)
   pub before : Each IsRuleText (take i texts)
+
+-- A text is the first that is no rule.
+abbrev pub BadText : List (List ℕ) → PlanFault → Type 0
+BadText texts (InFile f) = ⊥
+BadText texts (InText i f) = FirstBad texts i f
 
 -- The plan is not written into a list of `room` bytes: it is over a limit, else a text is no rule, else the file is longer.
 abbrev pub WriteRefused : Plan → ℕ → WriteFault → Type 0

@@ -1,10 +1,12 @@
 // Why a plan is refused, and where.
 ghost use Rattle.std.specs.Prelude.{◌≡◌};
+ghost use Rattle.plan.specs.declared.fault.PlanFault.TheVariants.{InFile};
+ghost use Rattle.plan.specs.declared.fault.WriteFault.TheVariants.{BadPlan};
 ghost use Rattle.plan.specs.Faults.{file_fault_number, plan_fault_number, write_fault_number};
 
 use rule_text::fault::Fault;
 
-#[derive(Clone, Copy)]
+#[derive(Clone, Copy, Debug, PartialEq, Eq)]
 pub enum FileFaultKind {
     // A contents entry has another kind or start than it should.
     BadContents,
@@ -17,7 +19,7 @@ pub enum FileFaultKind {
 }
 
 // A fault of the file outside the texts, with the byte of the first wrong field, or the file's length where that is wrong.
-#[derive(Clone, Copy)]
+#[derive(Clone, Copy, Debug, PartialEq, Eq)]
 pub struct FileFault {
     pub kind: FileFaultKind,
     pub byte: usize,
@@ -53,6 +55,14 @@ impl FileFault {
     }
 }
 
+impl From<FileFault> for PlanFault {
+    ghost from_gives = { λ f e. e ≡ InFile f };
+
+    fn from(fault: FileFault) -> PlanFault {
+        PlanFault::InFile(fault)
+    }
+}
+
 impl PlanFault {
     // The number of the refusal.
     pub fn number(&self) -> u8
@@ -62,6 +72,22 @@ impl PlanFault {
             PlanFault::InFile(fault) => fault.number(),
             PlanFault::InText(_, fault) => fault.number(),
         }
+    }
+}
+
+impl From<FileFault> for WriteFault {
+    ghost from_gives = { λ f e. e ≡ BadPlan (InFile f) };
+
+    fn from(fault: FileFault) -> WriteFault {
+        WriteFault::BadPlan(PlanFault::InFile(fault))
+    }
+}
+
+impl From<PlanFault> for WriteFault {
+    ghost from_gives = { λ f e. e ≡ BadPlan f };
+
+    fn from(fault: PlanFault) -> WriteFault {
+        WriteFault::BadPlan(fault)
     }
 }
 

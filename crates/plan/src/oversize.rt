@@ -4,7 +4,7 @@ ghost use Rattle.plan.specs.declared.fault.PlanFault.TheVariants.{InFile};
 ghost use Rattle.plan.specs.Reading.{LeftOpen, Refused};
 
 use crate::fault::FileFault;
-use crate::shape::shape_fault;
+use crate::shape::check_shape;
 
 // The length of the longest file: of 256 places, 4096 bindings and eight rules of 200 bytes.
 pub const LONGEST: usize = 51816;
@@ -13,13 +13,13 @@ pub const LONGEST: usize = 51816;
 // Absent where nothing is behind the front, where the front is shorter than the longest plan, or where the file's
 // length passes the largest number.
 pub fn oversize_fault(front: &[u8], behind: usize) -> Option<FileFault>
-    ensures { MatchOption result (LeftOpen (length front.now) behind) (λ f. (¬ (LeftOpen (length front.now) behind)) × ((rest : List ℕ) → length rest ≡ behind → Refused (front.now ++ rest) (InFile f))) }
+    ensures { MatchOption result (LeftOpen (length front.now) behind)
+        (λ f. (¬ (LeftOpen (length front.now) behind))
+        × ((rest : List ℕ) → length rest ≡ behind → Refused (front.now ++ rest) (InFile f))) }
 {
     if behind == 0 || front.len() < LONGEST {
         return None;
     }
-    let Some(total) = front.len().checked_add(behind) else {
-        return None;
-    };
-    shape_fault(front, total)
+    let total = front.len().checked_add(behind)?;
+    check_shape(front, total).err()
 }

@@ -1,10 +1,11 @@
 // Writing the file of a plan.
-ghost use Rattle.std.specs.Prelude.{◌≡◌, ◌+◌, ◌^◌, ◌<◌, ◌≤◌, length, Some, None, MatchOption, MatchResult};
+ghost use Rattle.std.specs.Prelude.{◌≡◌, ◌+◌, ◌^◌, ◌<◌, ◌≤◌, length, IfOk, MatchResult};
+ghost use Rattle.std.specs.Result.{result_err};
 ghost use Rattle.output.specs.Put.{Put};
 ghost use Rattle.plan.specs.Numbers.{bytes_of};
 ghost use Rattle.plan.specs.Format.{entry, contents, binding_bytes, text_bytes, flat, encoded};
 ghost use Rattle.plan.specs.Reading.{Each, IsRuleText};
-ghost use Rattle.plan.specs.Writing.{lent, plan_with, site_plan, texts_fault, FirstBad, Writable, Writing};
+ghost use Rattle.plan.specs.Writing.{lent, plan_with, site_plan, texts_fault, BadText, Writable, Writing};
 
 use crate::bytes::known_bytes;
 use crate::fault::{FileFault, FileFaultKind, PlanFault, WriteFault};
@@ -12,48 +13,49 @@ use crate::layout::{
     BINDING_BYTES, BINDINGS, FIRST_BODY, MOST_RULES, MOST_TEXT_BYTES, PLACE_BYTES, PLACES,
     RULE_COUNT, RULES,
 };
+use crate::shape::{check, rules_byte};
 use conditions::word::Word;
 use output::put;
 use routing::binding::Binding;
 use routing::site::SiteTable;
-use rule_text::fault::Fault;
 use rule_text::read::read_rule;
 
 // The length of the file whose rules begin at `start`, or the first limit that the texts do not keep.
 fn file_length(start: usize, texts: &[&[u8]]) -> Result<usize, FileFault>
     requires { start < 2 ^ 32 }
-    ensures { MatchResult result (λ n. (texts_fault start (lent texts.now) ≡ None) × (n ≡ start + length (flat text_bytes (lent texts.now)))) (λ f. texts_fault start (lent texts.now) ≡ Some f) }
+    ensures fault { result_err result ≡ texts_fault start (lent texts.now) }
+    ensures long { IfOk result (λ n. n ≡ start + length (flat text_bytes (lent texts.now))) }
 {
-    if texts.len() > MOST_RULES {
-        return Err(FileFault {
-            kind: FileFaultKind::OverLimit,
-            byte: RULE_COUNT,
-        });
-    }
+    check(
+        texts.len() <= MOST_RULES,
+        FileFaultKind::OverLimit,
+        RULE_COUNT,
+    )?;
     let mut byte = start;
     for text in texts {
-        if text.len() > MOST_TEXT_BYTES {
-            return Err(FileFault {
-                kind: FileFaultKind::OverLimit,
-                byte,
-            });
-        }
+        check(
+            text.len() <= MOST_TEXT_BYTES,
+            FileFaultKind::OverLimit,
+            byte,
+        )?;
         byte += 2 + text.len();
     }
     Ok(byte)
 }
 
-// The number of the first text that is no rule, and its fault.
-fn bad_text(texts: &[&[u8]]) -> Option<(usize, Fault)>
-    ensures { MatchOption result (Each IsRuleText (lent texts.now) × Each (Each (λ b. b < 2 ^ 8)) (lent texts.now)) (λ bad. FirstBad (lent texts.now) bad.0 bad.1) }
+// Tests that the texts are rules.
+fn check_texts(texts: &[&[u8]]) -> Result<(), PlanFault>
+    ensures { MatchResult result
+        (λ _. Each IsRuleText (lent texts.now) × Each (Each (λ b. b < 2 ^ 8)) (lent texts.now))
+        (λ e. BadText (lent texts.now) e) }
 {
     for (number, text) in texts.iter().enumerate() {
         if let Err(fault) = read_rule::<Word>(text) {
-            return Some((number, fault));
+            return Err(PlanFault::InText(number, fault));
         }
         known_bytes(text);
     }
-    None
+    Ok(())
 }
 
 // Writes the bytes, for which there is room, and answers the number behind them.
@@ -169,14 +171,8 @@ pub fn write_plan(
 {
     let marks = site.lent_marks();
     let records = site.lent_records();
-    let start = FIRST_BODY + PLACE_BYTES * marks.len() + BINDING_BYTES * records.len();
-    let length = match file_length(start, texts) {
-        Ok(length) => length,
-        Err(fault) => return Err(WriteFault::BadPlan(PlanFault::InFile(fault))),
-    };
-    if let Some((number, fault)) = bad_text(texts) {
-        return Err(WriteFault::BadPlan(PlanFault::InText(number, fault)));
-    }
+    let length = file_length(rules_byte(marks.len(), records.len()), texts)?;
+    check_texts(texts)?;
     if out.len() < length {
         return Err(WriteFault::TooShort);
     }

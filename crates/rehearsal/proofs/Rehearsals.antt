@@ -1,20 +1,14 @@
 -- What judging the shut network says of a rehearsal.
-use Rattle.std.proofs.Common.{◌≡◌, ℕ, ◌-◌, ◌*◌, Bool, true, false, cond, ◌&&◌, ltb, leb, List, length, Some, None, Option, Result, ap, ◌∙◌, subst, arith, MatchResult}
-use Rattle.std.proofs.lemmas.Result.{MatchResult-weaker}
+use Rattle.std.proofs.Common.{◌≡◌, ℕ, ◌*◌, Bool, true, false, cond, ◌&&◌, ltb, leb, List, length, Some, None, Option, ap, ◌∙◌, arith}
 use Rattle.conditions.specs.declared.word.Word.{Word}
-use Rattle.conditions.specs.WordSets.{word_holds}
 use Rattle.routing.specs.declared.binding.Binding.{Binding}
 use Rattle.routing.specs.declared.refusal.Refusal.{Refusal}
 use Rattle.routing.specs.declared.refusal.Refusal.TheVariants.{BadTable, NoBinding, TooShort}
-use Rattle.routing.specs.Bindings.{net_of}
 use Rattle.routing.specs.Refusals.{opening}
-use Rattle.routing.specs.Rules.{Means}
 use Rattle.tables.specs.declared.row.Row.{Row}
-use Rattle.tables.specs.Tables.{accepted, rule_at}
-use Rattle.judging.specs.Judged.{judge_refusal, RoundsBefore}
-use Rattle.verdicts.specs.declared.verdict.Judgement.{Judgement}
+use Rattle.tables.specs.Tables.{accepted}
+use Rattle.judging.specs.Judged.{judge_refusal}
 use Rattle.verdicts.specs.Sites.{first_refusal}
-use Rattle.verdicts.specs.Verdicts.{Told}
 use Rattle.rehearsal.specs.Shutting.{shut_at}
 use Rattle.rehearsal.specs.Rehearsals.{shut_net, rehearse_refusal}
 use Rattle.rehearsal.proofs.Shutting.{shut_opening}
@@ -29,26 +23,9 @@ fewer_tests None false b r e = e
 fewer_tests (Some x) a b r e = e
 
 -- A rehearsal that is not refused is not refused at the shut records.
-site_ready : (marks : List ℕ) (records : List (Binding Word)) (i : ℕ) (rows : List Row) (main spare : ℕ)
+pub site_ready : (marks : List ℕ) (records : List (Binding Word)) (i : ℕ) (rows : List Row) (main spare : ℕ)
     → rehearse_refusal marks records i rows main spare ≡ None
     → first_refusal (opening marks (shut_at i records)) (judge_refusal (shut_net marks records i) rows main spare) ≡ None
 site_ready marks records i rows main spare e =
     ap (λ (o : Option Refusal). first_refusal o (judge_refusal (shut_net marks records i) rows main spare)) (shut_opening marks i records)
     ∙ fewer_tests (opening marks records) (accepted 6 rows) (ltb i (length records)) (leb (length rows * length marks) main && leb (2 * length marks) spare) e
-
--- So the answer of judging them is the answer of the rehearsal.
-pub rehearsed : (marks : List ℕ) (records : List (Binding Word)) (i : ℕ) (rows : List Row) (main spare : ℕ)
-    → rehearse_refusal marks records i rows main spare ≡ None
-    → (now : List (Binding Word)) → now ≡ shut_at i records
-    → (Q : Refusal → Type 0) (r : Result Judgement Refusal)
-    → MatchResult r
-    (λ j. Told (net_of 6 word_holds marks now) (Means (net_of 6 word_holds marks now) (rule_at rows (length rows - 1))) j.verdict × RoundsBefore (net_of 6 word_holds marks now) rows (length rows) j.rounds)
-    (λ e. first_refusal (opening marks now) (judge_refusal (net_of 6 word_holds marks now) rows main spare) ≡ Some e)
-    → MatchResult r
-    (λ j. (rehearse_refusal marks records i rows main spare ≡ None) × Told (shut_net marks records i) (Means (shut_net marks records i) (rule_at rows (length rows - 1))) j.verdict × RoundsBefore (shut_net marks records i) rows (length rows) j.rounds)
-    Q
-rehearsed marks records i rows main spare taken now same Q r told =
-    MatchResult-weaker r
-    (subst (λ (bs : List (Binding Word)). MatchResult r (λ j. Told (net_of 6 word_holds marks bs) (Means (net_of 6 word_holds marks bs) (rule_at rows (length rows - 1))) j.verdict × RoundsBefore (net_of 6 word_holds marks bs) rows (length rows) j.rounds) (λ e. first_refusal (opening marks bs) (judge_refusal (net_of 6 word_holds marks bs) rows main spare) ≡ Some e)) same told)
-    (λ j k. (taken, k.0, k.1))
-    (λ e k. let none = site_ready marks records i rows main spare taken in let z : ◌≡◌ {A = ℕ} 0 1 = cc in absurd (omega arith))

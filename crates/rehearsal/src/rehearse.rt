@@ -1,5 +1,6 @@
 // Judging a network as if one binding forwarded under no setting.
-ghost use Rattle.std.specs.Prelude.{◌≡◌, ◌-◌, length, Some, None, MatchResult};
+ghost use Rattle.std.specs.Prelude.{◌≡◌, ◌-◌, length, IfOk, OnErr};
+ghost use Rattle.std.specs.Result.{result_err};
 ghost use Rattle.routing.specs.Rules.{Means};
 ghost use Rattle.tables.specs.Tables.{rule_at};
 ghost use Rattle.judging.specs.Judged.{RoundsBefore};
@@ -7,40 +8,38 @@ ghost use Rattle.verdicts.specs.Verdicts.{Told};
 ghost use Rattle.rehearsal.specs.Rehearsals.{shut_net, rehearse_refusal};
 
 use crate::shut::{Shut, empty_set};
+use conditions::set::ConditionSet;
 use conditions::word::Word;
 use routing::binding::Binding;
 use routing::refusal::Refusal;
+use routing::site::SiteTable;
 use tables::row::Row;
 use tables::table::is_accepted;
-use verdicts::site::{judge_site, site_refusal};
+use verdicts::site::judge_site;
 use verdicts::verdict::Judgement;
 
-const CONDITIONS: u32 = 6;
-
-// Why a rehearsal is refused, if it is.
-fn refused(
+// Tests a rehearsal with lists of so many sets.
+fn check(
     marks: &[u32],
     records: &[Binding<Word>],
     number: usize,
     table: &[Row],
     main: usize,
     spare: usize,
-) -> Option<Refusal>
-    ensures { result ≡ rehearse_refusal marks.now records.now number table.now main spare }
+) -> Result<(), Refusal>
+    ensures { result_err result ≡ rehearse_refusal marks.now records.now number table.now main spare }
 {
-    if let Some(refusal) = site_refusal(marks, records) {
-        return Some(refusal);
-    }
-    if !is_accepted(table, CONDITIONS) {
-        return Some(Refusal::BadTable);
+    let _ = SiteTable::open(marks, records)?;
+    if !is_accepted(table, Word::conditions()) {
+        return Err(Refusal::BadTable);
     }
     if number >= records.len() {
-        return Some(Refusal::NoBinding);
+        return Err(Refusal::NoBinding);
     }
     if main < table.len() * marks.len() || spare < 2 * marks.len() {
-        return Some(Refusal::TooShort);
+        return Err(Refusal::TooShort);
     }
-    None
+    Ok(())
 }
 
 // Answers the rounds and the verdict at the entries, as if binding `number` forwarded under no setting.
@@ -54,11 +53,16 @@ pub fn rehearse(
     spare: &mut [Word],
 ) -> Result<Judgement, Refusal>
     ensures back { records.new ≡ records.old }
-    ensures answer { MatchResult result (λ j. (rehearse_refusal marks.now records.old number table.now (length main.old) (length spare.old) ≡ None) × Told (shut_net marks.now records.old number) (Means (shut_net marks.now records.old number) (rule_at table.now (length table.now - 1))) j.verdict × RoundsBefore (shut_net marks.now records.old number) table.now (length table.now) j.rounds) (λ e. (rehearse_refusal marks.now records.old number table.now (length main.old) (length spare.old) ≡ Some e) × (main.new ≡ main.old) × (spare.new ≡ spare.old)) }
+    ensures refusal { result_err result
+        ≡ rehearse_refusal marks.now records.old number table.now (length main.old) (length spare.old) }
+    ensures told { IfOk result (λ j. Told (shut_net marks.now records.old number)
+        (Means (shut_net marks.now records.old number) (rule_at table.now (length table.now - 1))) j.verdict) }
+    ensures counted { IfOk result
+        (λ j. RoundsBefore (shut_net marks.now records.old number) table.now (length table.now) j.rounds) }
+    ensures main { OnErr result (main.new ≡ main.old) }
+    ensures spare { OnErr result (spare.new ≡ spare.old) }
 {
-    if let Some(refusal) = refused(marks, records, number, table, main.len(), spare.len()) {
-        return Err(refusal);
-    }
+    check(marks, records, number, table, main.len(), spare.len())?;
     let old = empty_set(records, number);
     let guard = Shut {
         records,

@@ -1,6 +1,7 @@
 // The trait of networks. Asking a network changes nothing.
-ghost use Rattle.std.specs.Prelude.{◌≡◌, ◌≤◌, length, IfSome, Some, MatchOption};
+ghost use Rattle.std.specs.Prelude.{◌≡◌, ◌≤◌, ◌&&◌, length, IfSome, Some, MatchOption, nat_lt, slice_index};
 ghost use Rattle.std.specs.List.{slice_get};
+ghost use Rattle.conditions.specs.Sets.{bit};
 ghost use Rattle.routing.specs.Net.{Net, places};
 ghost use Rattle.routing.specs.Bindings.{linked, Inside, Fits};
 
@@ -40,4 +41,14 @@ pub trait Network {
 
     // The settings of a position are those that the sets are over.
     ghost over: { (n : Self) → (meaning n).conditions ≡ Self.Set.ConditionSet.count };
+}
+
+// Whether a place of the network has mark k. There is no mark beyond the last place, nor above 31.
+pub fn has_mark<N: Network>(net: &N, place: usize, k: u8) -> bool
+    ensures { result ≡ (nat_lt k 32 && bit (slice_index (N.meaning net.now).marks place) k) }
+{
+    match net.marks(place) {
+        Some(marks) => k < 32 && marks >> k & 1 == 1,
+        None => false,
+    }
 }

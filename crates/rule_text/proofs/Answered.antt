@@ -1,21 +1,20 @@
 -- What a text is answered with.
-use Rattle.std.proofs.Common.{◌≡◌, ℕ, suc, ◌+◌, ◌<◌, ◌≤◌, Bool, true, false, cond, ltb, leb, List, [], ◌∷◌, ◌++◌, length, take, is_some, IsErrAnd, Some, None, Ok, Err, Option, Result, sym, refl, ap, ◌∙◌, subst, arith, length-append}
+use Rattle.std.proofs.Common.{◌≡◌, ℕ, suc, ◌+◌, ◌<◌, ◌≤◌, Bool, true, false, cond, ltb, leb, List, [], ◌∷◌, ◌++◌, length, is_some, Some, None, Ok, Err, Option, sym, refl, ap, ◌∙◌, subst, arith, length-append}
 use Rattle.routing.specs.Rules.{Rule}
 use Rattle.rule_text.specs.declared.word.Word.{Word}
 use Rattle.rule_text.specs.declared.word.Word.TheVariants.{Yes, Mark, Condition, Before, Routes, Until, And, Or, Open, Close, OpenSquare, CloseSquare}
-use Rattle.rule_text.specs.Descent.{nothing, behind_part, or_with, next_state, Item, bad, items, unread, end_of, outcome, kept, rows_kept, push_rows, ChoiceRead}
+use Rattle.rule_text.specs.Descent.{nothing, behind_part, or_with, next_state, Item, bad, items, unread, end_of, outcome, rows_kept, next_number, push_rows, ChoiceRead}
 use Rattle.std.proofs.lemmas.List.{length-take-le}
 use Rattle.std.proofs.lemmas.Bool.{cond-true, cond-false, le-leb, lt-leb, ltb-false, ltb-true, true≢false}
-use Rattle.std.proofs.lemmas.Result.{err_from_is_err_and}
 use Rattle.tables.specs.declared.row.Row.{Row}
 use Rattle.rule_text.specs.declared.fault.Fault.{Fault}
 use Rattle.rule_text.specs.declared.fault.FaultKind.TheVariants.{CannotFollow, TooManyRows}
 use Rattle.rule_text.specs.declared.reader.Reader.{Reader}
-use Rattle.rule_text.specs.declared.rows.Rows.{Rows}
 use Rattle.rule_text.specs.declared.table.Table.{Table}
 use Rattle.rule_text.specs.Faults.{fault}
 use Rattle.rule_text.specs.Rows.{rows_of}
-use Rattle.rule_text.specs.Reading.{Reading}
+use Rattle.rule_text.specs.Reading.{Answer, Reading, table_rows}
+use Rattle.std.specs.Option.{ok_or}
 use Rattle.rule_text.proofs.Accepts.{begin}
 use Rattle.rule_text.proofs.Emitted.{push_some}
 use Rattle.rule_text.proofs.Steps.{at_none, stuck}
@@ -68,7 +67,7 @@ push_over (w ∷ ws) rows e l = go (ltb (length rows) 32) refl (push_over ws (ro
     go false t more h = omega (arith, ltb-false (length rows) 32 t)
 
 -- The whole text is read.
-module _ (K : ℕ) (text : List ℕ) (short : length text ≤ 200) (b d : Reader) (t u : Rows) (r : ℕ)
+module _ (K : ℕ) (text : List ℕ) (short : length text ≤ 200) (b d : Reader) (t u : Option Table) (r : ℕ)
     (unread_is : items K text 0 ≡ unread b) (ends : end_of b ≡ length text) (ends' : end_of d ≡ length text) where
   pub choice_bad : (e : Fault) → ChoiceRead 32 b d t u (Err e) → Reading K text (Err e)
   choice_bad e reads =
@@ -90,29 +89,24 @@ module _ (K : ℕ) (text : List ℕ) (short : length text ≤ 200) (b d : Reader
         (to_end ∙ stuck (length text) d v (behind_part reads.0 reads.1 nothing) e
         (only_more reads.0 reads.1 v (λ x. reads.4 (e ∙ ap Some x)) (λ x. reads.5 (e ∙ ap Some x))))
 
-    rows_over : rows_kept t ≡ Some [] → t.len ≡ 0 → u.over ≡ true → 32 < length (rows_of 0 (or_with reads.0 reads.1))
-    rows_over none zero_len over =
-        let f = or_with reads.0 reads.1 in
-        let gone : rows_kept u ≡ None = ap (kept u.rows u.len) over in
-        let pushed : None ≡ push_rows (Some []) (rows_of 0 f) =
-        sym gone ∙ reads.2.rows_are ∙ ap (λ k. push_rows k (rows_of t.len f)) none ∙ ap (λ n. push_rows (Some []) (rows_of n f)) zero_len in
-        let over_all : 32 < length {A = Row} [] + length (rows_of 0 f) = push_over (rows_of 0 f) [] pushed (omega arith) in
-        omega (arith, over_all)
+    pub table_answered : rows_kept t ≡ Some [] → d.word ≡ None → Answer K text (ok_or u (fault TooManyRows (length text)))
+    table_answered none e = go u reads.2.rows_are
+      where
+        f : Rule
+        f = or_with reads.0 reads.1
 
-    pub too_many : rows_kept t ≡ Some [] → t.len ≡ 0 → d.word ≡ None → u.over ≡ true → Reading K text (Err (fault TooManyRows (length text)))
-    too_many none zero_len e over = crowding K text short (or_with reads.0 reads.1) (rule_is e) (rows_over none zero_len over)
-
-    pub table_read : rows_kept t ≡ Some [] → t.len ≡ 0 → d.word ≡ None → u.over ≡ false
-        → (f : Rule) × Reading K text (Ok f) × (take u.len u.rows ≡ rows_of 0 f)
-    table_read none zero_len e over =
-        let f = or_with reads.0 reads.1 in
-        let there : rows_kept u ≡ Some (take u.len u.rows) = ap (kept u.rows u.len) over in
-        let pushed : Some (take u.len u.rows) ≡ push_rows (Some []) (rows_of 0 f) =
-        sym there ∙ reads.2.rows_are ∙ ap (λ k. push_rows k (rows_of t.len f)) none ∙ ap (λ n. push_rows (Some []) (rows_of n f)) zero_len in
-        let same : take u.len u.rows ≡ rows_of 0 f = push_some (rows_of 0 f) [] (take u.len u.rows) pushed in
-        let long = length-take-le u.len u.rows (omega (arith, u.few, u.sized)) in
-        let count : length (rows_of 0 f) ≤ 32 = omega (arith, ap length same, u.few) in
-        (f, fitting K text short f (rule_is e) count, same)
+        go : (v : Option Table) → rows_kept v ≡ push_rows (rows_kept t) (rows_of (next_number (rows_kept t)) f)
+            → Answer K text (ok_or v (fault TooManyRows (length text)))
+        go None h =
+            let over : 32 < length {A = Row} [] + length (rows_of 0 f) =
+            push_over (rows_of 0 f) [] (h ∙ ap (λ k. push_rows k (rows_of (next_number k) f)) none) (omega arith) in
+            crowding K text short f (rule_is e) (omega (arith, over))
+        go (Some v) h =
+            let same : table_rows v ≡ rows_of 0 f =
+            push_some (rows_of 0 f) [] (table_rows v) (h ∙ ap (λ k. push_rows k (rows_of (next_number k) f)) none) in
+            let long = length-take-le v.len v.rows (omega (arith, v.few, v.sized)) in
+            let count : length (rows_of 0 f) ≤ 32 = omega (arith, ap length same, v.few) in
+            (f, fitting K text short f (rule_is e) count, same)
 
 pub some_word : (o : Option Word) → is_some o ≡ true → (v : Word) × (o ≡ Some v)
 some_word None e = absurd (true≢false (sym e))
@@ -121,7 +115,3 @@ some_word (Some v) e = (v, refl)
 pub no_word : (o : Option Word) → is_some o ≡ false → o ≡ None
 no_word None e = refl
 no_word (Some v) e = absurd (true≢false e)
-
--- The exit of a `?`.
-pub left_with : (P : Result Table Fault → Type 0) (r : Result Table Fault) (e : Fault) → IsErrAnd r (λ y. y ≡ e) → P (Err e) → P r
-left_with P r e by h = let q = err_from_is_err_and r by in subst P (ap Err (sym q.2) ∙ sym q.1) h

@@ -1,13 +1,12 @@
 -- What choice, both and one do, put together from their steps.
-use Rattle.std.proofs.Common.{◌≡◌, ℕ, ◌+◌, ◌-◌, ◌<◌, ◌≤◌, true, List, [], ◌∷◌, length, IsErrAnd, Some, None, Ok, Err, Option, Result, sym, refl, ap, ◌∙◌, subst, arith}
-use Rattle.std.proofs.lemmas.Result.{err_from_is_err_and}
+use Rattle.std.proofs.Common.{◌≡◌, ℕ, ◌+◌, ◌-◌, ◌<◌, ◌≤◌, true, List, [], ◌∷◌, length, Some, None, Ok, Err, Option, sym, refl, ap, ◌∙◌, arith}
 use Rattle.routing.specs.Rules.{Rule, both}
 use Rattle.tables.specs.declared.row.Operation.TheVariants.{And as AndRow, Or as OrRow}
 use Rattle.tables.specs.Tables.{coded}
 use Rattle.rule_text.specs.declared.fault.Fault.{Fault}
 use Rattle.rule_text.specs.declared.reader.Reader.{Reader}
 use Rattle.rule_text.specs.declared.word.Word.{Word}
-use Rattle.rule_text.specs.declared.rows.Rows.{Rows}
+use Rattle.rule_text.specs.declared.table.Table.{Table}
 use Rattle.rule_text.specs.declared.word.Prefix.{Prefix}
 use Rattle.rule_text.specs.declared.word.Quantifier.{Quantifier}
 use Rattle.rule_text.specs.declared.word.Word.TheVariants.{Before, Routes, Until, And, Or, Open, Close, OpenSquare, CloseSquare}
@@ -17,25 +16,21 @@ use Rattle.rule_text.specs.Descent.{unread, end_of, Onward, Stepped, Fails, Took
 use Rattle.rule_text.proofs.Emitted.{added_and, added_or}
 use Rattle.rule_text.proofs.Steps.{ahead_of, leads_bad, ends_same, entered, entered_not, only_close, only_close_square, only_square, only_until, passed, passed_not}
 
--- The exit of a `?`.
-pub broken : (P : Result ℕ Fault → Type 0) (r : Result ℕ Fault) (e : Fault) → IsErrAnd r (λ y. y ≡ e) → P (Err e) → P r
-broken P r e by h = let q = err_from_is_err_and r by in subst P (ap Err (sym q.2) ∙ sym q.1) h
-
 -- A word alone.
-pub one_word : (n : ℕ) (a b : Reader) (t u : Rows) (r : ℕ) (w : Word) (f : Rule) → a.word ≡ Some w → (0 < n) × Stepped a b → Added t u f r
+pub one_word : (n : ℕ) (a b : Reader) (t u : Option Table) (r : ℕ) (w : Word) (f : Rule) → a.word ≡ Some w → (0 < n) × Stepped a b → Added t u f r
     → ((xs : List Prefix) (o l : Option Rule) (K : Around) → next_state (before_part xs o l K) w ≡ Some (part_done xs o l K f))
     → OneRead n a b t u (Ok r)
 one_word n a b t u r w f e st ad m =
     (f, ad, ahead_of a b w e st.1, λ xs o l K d. entered (end_of a) a b w n xs o l K (part_done xs o l K f) e st d (m xs o l K))
 
-pub one_not_entered : (n : ℕ) (a d b : Reader) (t u : Rows) (w : Word) (f : Fault) → a.word ≡ Some w → has_level w ≡ true → Enters n a d (Err f)
+pub one_not_entered : (n : ℕ) (a d b : Reader) (t u : Option Table) (w : Word) (f : Fault) → a.word ≡ Some w → has_level w ≡ true → Enters n a d (Err f)
     → ((xs : List Prefix) (o l : Option Rule) (K : Around) → (s : State) × (next_state (before_part xs o l K) w ≡ Some s))
     → OneRead n a b t u (Err f)
 one_not_entered n a d b t u w f e h en m xs o l K q =
     let s = m xs o l K in entered_not (end_of a) a d w n xs o l K s.0 f e h en q s.1
 
 -- A prefix and its part.
-pub one_prefix : (x : Prefix) (n : ℕ) (a a₁ b : Reader) (t t₁ u₁ u : Rows) (part r : ℕ) → a.word ≡ Some (Before x) → Enters n a a₁ (Ok tt) → Onward a a₁
+pub one_prefix : (x : Prefix) (n : ℕ) (a a₁ b : Reader) (t t₁ u₁ u : Option Table) (part r : ℕ) → a.word ≡ Some (Before x) → Enters n a a₁ (Ok tt) → Onward a a₁
     → OneRead (n - 1) a₁ b t₁ u₁ (Ok part) → ((p : Rule) → Added t₁ u₁ p part → Added t u (prefix_rule x p) r)
     → OneRead n a b t u (Ok r)
 one_prefix x n a a₁ b t t₁ u₁ u part r e en on (p, ad, lt, reads) made = (
@@ -49,7 +44,7 @@ one_prefix x n a a₁ b t t₁ u₁ u part r e en on (p, ad, lt, reads) made = (
       ∙ ap (λ i. outcome i (unread b) (part_done (x ∷ xs) o l K p)) (ends_same a a₁ on),
 )
 
-pub one_prefix_not : (x : Prefix) (n : ℕ) (a a₁ b d : Reader) (t t₁ u₁ u : Rows) (f : Fault) → a.word ≡ Some (Before x) → Enters n a a₁ (Ok tt) → Onward a a₁
+pub one_prefix_not : (x : Prefix) (n : ℕ) (a a₁ b d : Reader) (t t₁ u₁ u : Option Table) (f : Fault) → a.word ≡ Some (Before x) → Enters n a a₁ (Ok tt) → Onward a a₁
     → OneRead (n - 1) a₁ b t₁ u₁ (Err f) → OneRead n a d t u (Err f)
 one_prefix_not x n a a₁ b c t t₁ u₁ u f e en on reads xs o l K d =
     entered (end_of a) a a₁ (Before x) n xs o l K (before_part (x ∷ xs) o l K) e en d refl
@@ -64,10 +59,10 @@ module _ (n : ℕ) (a a₁ : Reader) (e : a.word ≡ Some Open) (en : Enters n a
       entered (end_of a) a a₁ Open n xs o l K (before_part [] None None (inside bracket xs o l K)) e en d refl
       ∙ ap (λ i. outcome i (unread a₁) (before_part [] None None (inside bracket xs o l K))) (sym (ends_same a a₁ on))
 
-  pub one_bracket_not : (b d : Reader) (t u t₁ u₁ : Rows) (f : Fault) → ChoiceRead (n - 1) a₁ b t u (Err f) → OneRead n a d t₁ u₁ (Err f)
+  pub one_bracket_not : (b d : Reader) (t u t₁ u₁ : Option Table) (f : Fault) → ChoiceRead (n - 1) a₁ b t u (Err f) → OneRead n a d t₁ u₁ (Err f)
   one_bracket_not b d t u t₁ u₁ f reads xs o l K q = into_bracket xs o l K q ∙ reads (inside bracket xs o l K) (omega (arith, en.0))
 
-  pub one_bracket : (b d : Reader) (t u : Rows) (r : ℕ) → ChoiceRead (n - 1) a₁ b t u (Ok r) → Onward a₁ b → Took Close b d → OneRead n a d t u (Ok r)
+  pub one_bracket : (b d : Reader) (t u : Option Table) (r : ℕ) → ChoiceRead (n - 1) a₁ b t u (Ok r) → Onward a₁ b → Took Close b d → OneRead n a d t u (Ok r)
   one_bracket b d t u r (p, f, ad, lt, no_and, no_or, reads) on₁ tk = (
     or_with p f,
     ad,
@@ -78,7 +73,7 @@ module _ (n : ℕ) (a a₁ : Reader) (e : a.word ≡ Some Open) (en : Enters n a
         ∙ ap (λ i. outcome i (unread d) (part_done xs o l K (or_with p f))) (ends_same a a₁ on),
   )
 
-  pub one_bracket_open : (b d : Reader) (t u t₁ u₁ : Rows) (r : ℕ) (g : Fault) → ChoiceRead (n - 1) a₁ b t u (Ok r) → Onward a₁ b → Missed Close b g
+  pub one_bracket_open : (b d : Reader) (t u t₁ u₁ : Option Table) (r : ℕ) (g : Fault) → ChoiceRead (n - 1) a₁ b t u (Ok r) → Onward a₁ b → Missed Close b g
       → OneRead n a d t₁ u₁ (Err g)
   one_bracket_open b d t u t₁ u₁ r g (p, f, ad, lt, no_and, no_or, reads) on₁ ms xs o l K q =
       into_bracket xs o l K q ∙ reads (inside bracket xs o l K) (omega (arith, en.0))
@@ -94,7 +89,7 @@ module _ (k : Quantifier) (n : ℕ) (a a₁ : Reader) (e : a.word ≡ Some (Rout
       entered (end_of a) a a₁ (Routes k) n xs o l K (before_square k xs o l K) e en d refl
       ∙ ap (λ i. outcome i (unread a₁) (before_square k xs o l K)) (sym (ends_same a a₁ on))
 
-  pub one_until_square : (d : Reader) (t u : Rows) (g : Fault) → Missed OpenSquare a₁ g → OneRead n a d t u (Err g)
+  pub one_until_square : (d : Reader) (t u : Option Table) (g : Fault) → Missed OpenSquare a₁ g → OneRead n a d t u (Err g)
   one_until_square d t u g ms xs o l K q =
       to_square xs o l K q
       ∙ passed_not a₁ OpenSquare (before_square k xs o l K) (before_part [] None None (inside (until_first k) xs o l K)) g refl ms refl refl
@@ -108,17 +103,17 @@ module _ (k : Quantifier) (n : ℕ) (a a₁ : Reader) (e : a.word ≡ Some (Rout
         ∙ passed (end_of a₁) a₁ a₂ OpenSquare (before_square k xs o l K) (before_part [] None None (inside (until_first k) xs o l K)) refl sq refl
         ∙ ap (λ i. outcome i (unread a₂) (before_part [] None None (inside (until_first k) xs o l K))) (sym (ends_same a₁ a₂ on₁))
 
-    pub one_until_first_not : (b d : Reader) (t u t₁ u₁ : Rows) (g : Fault) → ChoiceRead (n - 1) a₂ b t u (Err g) → OneRead n a d t₁ u₁ (Err g)
+    pub one_until_first_not : (b d : Reader) (t u t₁ u₁ : Option Table) (g : Fault) → ChoiceRead (n - 1) a₂ b t u (Err g) → OneRead n a d t₁ u₁ (Err g)
     one_until_first_not b d t u t₁ u₁ g reads xs o l K q = to_first xs o l K q ∙ reads (inside (until_first k) xs o l K) (omega (arith, en.0))
 
-    module _ (b : Reader) (t u : Rows) (r : ℕ) (first : ChoiceRead (n - 1) a₂ b t u (Ok r)) (on₂ : Onward a₂ b) where
+    module _ (b : Reader) (t u : Option Table) (r : ℕ) (first : ChoiceRead (n - 1) a₂ b t u (Ok r)) (on₂ : Onward a₂ b) where
       to_until : (xs : List Prefix) (o l : Option Rule) (K : Around) → length xs + depth K + n ≡ 32
           → outcome (end_of a) (unread a) (before_part xs o l K) ≡ outcome (end_of b) (unread b) (behind_part first.0 first.1 (inside (until_first k) xs o l K))
       to_until xs o l K d =
           to_first xs o l K d ∙ first.6 (inside (until_first k) xs o l K) (omega (arith, en.0))
           ∙ ap (λ i. outcome i (unread b) (behind_part first.0 first.1 (inside (until_first k) xs o l K))) (sym (ends_same a₂ b on₂))
 
-      pub one_until_missing : (d : Reader) (t₁ u₁ : Rows) (g : Fault) → Missed Until b g → OneRead n a d t₁ u₁ (Err g)
+      pub one_until_missing : (d : Reader) (t₁ u₁ : Option Table) (g : Fault) → Missed Until b g → OneRead n a d t₁ u₁ (Err g)
       one_until_missing d t₁ u₁ g ms xs o l K q =
           to_until xs o l K q
           ∙ passed_not b Until (behind_part first.0 first.1 (inside (until_first k) xs o l K))
@@ -135,11 +130,11 @@ module _ (k : Quantifier) (n : ℕ) (a a₁ : Reader) (e : a.word ≡ Some (Rout
             (before_part [] None None (inside (until_second k (or_with first.0 first.1)) xs o l K)) refl un refl
             ∙ ap (λ i. outcome i (unread b₁) (before_part [] None None (inside (until_second k (or_with first.0 first.1)) xs o l K))) (sym (ends_same b b₁ on₃))
 
-        pub one_until_second_not : (c d : Reader) (t₁ u₁ t₂ u₂ : Rows) (g : Fault) → ChoiceRead (n - 1) b₁ c t₁ u₁ (Err g) → OneRead n a d t₂ u₂ (Err g)
+        pub one_until_second_not : (c d : Reader) (t₁ u₁ t₂ u₂ : Option Table) (g : Fault) → ChoiceRead (n - 1) b₁ c t₁ u₁ (Err g) → OneRead n a d t₂ u₂ (Err g)
         one_until_second_not c d t₁ u₁ t₂ u₂ g reads xs o l K q =
             to_second xs o l K q ∙ reads (inside (until_second k (or_with first.0 first.1)) xs o l K) (omega (arith, en.0))
 
-        module _ (c : Reader) (v : Rows) (s : ℕ) (second : ChoiceRead (n - 1) b₁ c u v (Ok s)) (on₄ : Onward b₁ c) where
+        module _ (c : Reader) (v : Option Table) (s : ℕ) (second : ChoiceRead (n - 1) b₁ c u v (Ok s)) (on₄ : Onward b₁ c) where
           to_close : (xs : List Prefix) (o l : Option Rule) (K : Around) → length xs + depth K + n ≡ 32
               → outcome (end_of a) (unread a) (before_part xs o l K)
               ≡ outcome (end_of c) (unread c) (behind_part second.0 second.1 (inside (until_second k (or_with first.0 first.1)) xs o l K))
@@ -148,7 +143,7 @@ module _ (k : Quantifier) (n : ℕ) (a a₁ : Reader) (e : a.word ≡ Some (Rout
               ∙ ap (λ i. outcome i (unread c) (behind_part second.0 second.1 (inside (until_second k (or_with first.0 first.1)) xs o l K)))
               (sym (ends_same b₁ c on₄))
 
-          pub one_until_open : (d : Reader) (t₁ u₁ : Rows) (g : Fault) → Missed CloseSquare c g → OneRead n a d t₁ u₁ (Err g)
+          pub one_until_open : (d : Reader) (t₁ u₁ : Option Table) (g : Fault) → Missed CloseSquare c g → OneRead n a d t₁ u₁ (Err g)
           one_until_open d t₁ u₁ g ms xs o l K q =
               to_close xs o l K q
               ∙ passed_not c CloseSquare (behind_part second.0 second.1 (inside (until_second k (or_with first.0 first.1)) xs o l K))
@@ -156,7 +151,7 @@ module _ (k : Quantifier) (n : ℕ) (a a₁ : Reader) (e : a.word ≡ Some (Rout
               (λ v h ne. only_close_square second.1 second.0 k (or_with first.0 first.1) xs o l K v
               (λ x. second.4 (h ∙ ap Some x)) (λ x. second.5 (h ∙ ap Some x)) ne)
 
-          pub one_until : (d : Reader) (w : Rows) (m : ℕ) → Took CloseSquare c d
+          pub one_until : (d : Reader) (w : Option Table) (m : ℕ) → Took CloseSquare c d
               → Added t w (until_rule k (or_with first.0 first.1) (or_with second.0 second.1)) m
               → OneRead n a d t w (Ok m)
           one_until d w m tk ad = (
@@ -180,7 +175,7 @@ module _ (k : Quantifier) (n : ℕ) (a a₁ : Reader) (e : a.word ≡ Some (Rout
           )
 
 -- One more part behind `&`.
-pub joining_more : (n : ℕ) (a b b₁ b₂ : Reader) (t u u₁ u₂ : Rows) (v r right r₂ : ℕ) → Joining n a b t u v r → Onward a b → b.word ≡ Some And
+pub joining_more : (n : ℕ) (a b b₁ b₂ : Reader) (t u u₁ u₂ : Option Table) (v r right r₂ : ℕ) → Joining n a b t u v r → Onward a b → b.word ≡ Some And
     → Stepped b b₁ → Onward b b₁ → OneRead n b₁ b₂ u u₁ (Ok right)
     → rows_kept u₂ ≡ push_row (rows_kept u₁) (coded (AndRow r right)) → LastIs (rows_kept u₂) r₂ → Joining n a b₂ t u₂ v r₂
 joining_more n a b b₁ b₂ t u u₁ u₂ v r right r₂ so on e st on₁ (g, ag, lt, reads) rows last t₀ f₀ ad₀ =
@@ -198,7 +193,7 @@ joining_more n a b b₁ b₂ t u u₁ u₂ v r right r₂ so on e st on₁ (g, a
     )
 
 -- The first part of `both`, and what its loop came to.
-module _ (n : ℕ) (a a₀ b : Reader) (t t₀ u : Rows) (v r : ℕ) (first : OneRead n a a₀ t t₀ (Ok v)) (on : Onward a a₀) (so : Joining n a₀ b t₀ u v r) where
+module _ (n : ℕ) (a a₀ b : Reader) (t t₀ u : Option Table) (v r : ℕ) (first : OneRead n a a₀ t t₀ (Ok v)) (on : Onward a a₀) (so : Joining n a₀ b t₀ u v r) where
   both_read : (o : Option Rule) (K : Around) → depth K + n ≡ 32
       → outcome (end_of a) (unread a) (before_part [] o None K) ≡ outcome (end_of a) (unread b) (behind_part o (so t first.0 first.1).0 K)
   both_read o K d =
@@ -210,12 +205,12 @@ module _ (n : ℕ) (a a₀ b : Reader) (t t₀ u : Rows) (v r : ℕ) (first : On
   pub both_done : a₀.start ≤ b.start → (b.word ≡ Some And → ⊥) → BothRead n a b t u (Ok r)
   both_done le no_and = ((so t first.0 first.1).0, (so t first.0 first.1).1, omega (arith, first.2), no_and, both_read)
 
-  pub both_next_bad : (d : Reader) (u₁ : Rows) (e : Fault) → b.word ≡ Some And → Fails b e → BothRead n a d t u₁ (Err e)
+  pub both_next_bad : (d : Reader) (u₁ : Option Table) (e : Fault) → b.word ≡ Some And → Fails b e → BothRead n a d t u₁ (Err e)
   both_next_bad d u₁ e w bad_next o K q =
       both_read o K q
       ∙ leads_bad (end_of a) b And (behind_part o (so t first.0 first.1).0 K) (before_part [] o (Some (so t first.0 first.1).0) K) e w refl refl bad_next
 
-  pub both_part_bad : (b₁ b₂ d : Reader) (u₁ u₂ : Rows) (e : Fault) → b.word ≡ Some And → Stepped b b₁ → Onward a b₁ → OneRead n b₁ b₂ u u₁ (Err e) → BothRead n a d t u₂ (Err e)
+  pub both_part_bad : (b₁ b₂ d : Reader) (u₁ u₂ : Option Table) (e : Fault) → b.word ≡ Some And → Stepped b b₁ → Onward a b₁ → OneRead n b₁ b₂ u u₁ (Err e) → BothRead n a d t u₂ (Err e)
   both_part_bad b₁ b₂ d u₁ u₂ e w st on₁ part o K q =
       both_read o K q
       ∙ passed (end_of a) b b₁ And (behind_part o (so t first.0 first.1).0 K) (before_part [] o (Some (so t first.0 first.1).0) K) refl (record { was = w; step = st }) refl
@@ -223,7 +218,7 @@ module _ (n : ℕ) (a a₀ b : Reader) (t t₀ u : Rows) (v r : ℕ) (first : On
       ∙ part [] o (Some (so t first.0 first.1).0) K (omega (arith, q))
 
 -- One more operand behind `|`.
-pub choosing_more : (n : ℕ) (a b b₁ b₂ : Reader) (t u u₁ u₂ : Rows) (v r right r₂ : ℕ) → Choosing n a b t u v r → Onward a b → b.word ≡ Some Or
+pub choosing_more : (n : ℕ) (a b b₁ b₂ : Reader) (t u u₁ u₂ : Option Table) (v r right r₂ : ℕ) → Choosing n a b t u v r → Onward a b → b.word ≡ Some Or
     → Stepped b b₁ → Onward b b₁ → BothRead n b₁ b₂ u u₁ (Ok right)
     → rows_kept u₂ ≡ push_row (rows_kept u₁) (coded (OrRow r right)) → LastIs (rows_kept u₂) r₂ → Choosing n a b₂ t u₂ v r₂
 choosing_more n a b b₁ b₂ t u u₁ u₂ v r right r₂ so on e st on₁ (g, ag, lt, no_and, reads) rows last t₀ o₀ f₀ ad₀ =
@@ -241,7 +236,7 @@ choosing_more n a b b₁ b₂ t u u₁ u₂ v r right r₂ so on e st on₁ (g, 
           ∙ ap (λ i. outcome i (unread b₂) (behind_part (Some p) g K)) ends,
     )
 
-module _ (n : ℕ) (a a₀ b : Reader) (t t₀ u : Rows) (v r : ℕ) (first : BothRead n a a₀ t t₀ (Ok v)) (on : Onward a a₀) (so : Choosing n a₀ b t₀ u v r) where
+module _ (n : ℕ) (a a₀ b : Reader) (t t₀ u : Option Table) (v r : ℕ) (first : BothRead n a a₀ t t₀ (Ok v)) (on : Onward a a₀) (so : Choosing n a₀ b t₀ u v r) where
   choice_read : (K : Around) → depth K + n ≡ 32
       → outcome (end_of a) (unread a) (before_part [] None None K)
       ≡ outcome (end_of a) (unread b) (behind_part (so t None first.0 first.1).0 (so t None first.0 first.1).1 K)
@@ -255,13 +250,13 @@ module _ (n : ℕ) (a a₀ b : Reader) (t t₀ u : Rows) (v r : ℕ) (first : Bo
   choice_done le no_and no_or =
       ((so t None first.0 first.1).0, (so t None first.0 first.1).1, (so t None first.0 first.1).2, omega (arith, first.2), no_and, no_or, choice_read)
 
-  pub choice_next_bad : (d : Reader) (u₁ : Rows) (e : Fault) → b.word ≡ Some Or → Fails b e → ChoiceRead n a d t u₁ (Err e)
+  pub choice_next_bad : (d : Reader) (u₁ : Option Table) (e : Fault) → b.word ≡ Some Or → Fails b e → ChoiceRead n a d t u₁ (Err e)
   choice_next_bad d u₁ e w bad_next K q =
       choice_read K q
       ∙ leads_bad (end_of a) b Or (behind_part (so t None first.0 first.1).0 (so t None first.0 first.1).1 K)
       (before_part [] (Some (or_with (so t None first.0 first.1).0 (so t None first.0 first.1).1)) None K) e w refl refl bad_next
 
-  pub choice_part_bad : (b₁ b₂ d : Reader) (u₁ u₂ : Rows) (e : Fault) → b.word ≡ Some Or → Stepped b b₁ → Onward a b₁ → BothRead n b₁ b₂ u u₁ (Err e) → ChoiceRead n a d t u₂ (Err e)
+  pub choice_part_bad : (b₁ b₂ d : Reader) (u₁ u₂ : Option Table) (e : Fault) → b.word ≡ Some Or → Stepped b b₁ → Onward a b₁ → BothRead n b₁ b₂ u u₁ (Err e) → ChoiceRead n a d t u₂ (Err e)
   choice_part_bad b₁ b₂ d u₁ u₂ e w st on₁ part K q =
       let p = or_with (so t None first.0 first.1).0 (so t None first.0 first.1).1 in
       choice_read K q

@@ -1,10 +1,11 @@
 -- Steps of the reader.
-use Rattle.std.proofs.Common.{◌≡◌, ℕ, ◌+◌, ◌<◌, true, false, ◌&&◌, leb, ◌⊎◌, List, length, Some, None, Ok, Err, Option, Result, sym, refl, ap, ◌∙◌, subst, inl, inr, arith, MatchResult}
+use Rattle.std.proofs.Common.{IsErrAnd, ◌≡◌, ℕ, ◌+◌, ◌<◌, true, false, ◌&&◌, leb, ◌⊎◌, List, length, Some, None, Ok, Err, Option, Result, sym, refl, ap, ◌∙◌, subst, inl, inr, arith, MatchResult}
 use Rattle.rule_text.specs.declared.fault.Fault.{Fault}
 use Rattle.rule_text.specs.declared.fault.FaultKind.TheVariants.{CannotFollow}
 use Rattle.rule_text.specs.declared.reader.Reader.{Reader}
 use Rattle.rule_text.specs.declared.word.Word.{Word}
 use Rattle.rule_text.specs.Faults.{fault}
+use Rattle.std.proofs.lemmas.Result.{err_from_is_err_and}
 use Rattle.std.proofs.lemmas.Bool.{and_right, and_from, lt-leb, le-leb}
 use Rattle.routing.specs.Rules.{Rule}
 use Rattle.rule_text.specs.declared.word.Prefix.{Prefix}
@@ -12,6 +13,10 @@ use Rattle.rule_text.specs.declared.word.Quantifier.{Quantifier}
 use Rattle.rule_text.specs.declared.word.Word.TheVariants.{Yes, Mark, Condition, Before, Routes, Until, And, Or, Open, Close, OpenSquare, CloseSquare}
 use Rattle.rule_text.specs.Levels.{has_level}
 use Rattle.rule_text.specs.Descent.{items, left, unread, end_of, Onward, Stepped, Fails, Took, Missed, another, faulty, Takes, Enters, Around, inside, bracket, until_first, until_second, State, before_part, before_square, behind_part, next_state, depth, levels_at, rule_read, at_end, moved, outcome}
+
+-- The exit of a `?`.
+pub left_with : {T : Type 0} (P : Result T Fault → Type 0) (r : Result T Fault) (e : Fault) → IsErrAnd r (λ y. y ≡ e) → P (Err e) → P r
+left_with P r e by h = let q = err_from_is_err_and r by in subst P (ap Err (sym q.2) ∙ sym q.1) h
 
 pub took : (w : Word) (a b : Reader) (t : Result (Unit {0}) Fault) → a.word ≡ Some w → MatchResult t (λ _. Stepped a b) (Fails a) → Takes w a b t
 took w a b (Ok u) e h = record { was = e; step = h }

@@ -1,5 +1,6 @@
 -- How the reader works through the words. Only contracts inside the crate cite this.
-use Rattle.std.specs.Prelude.{◌≡◌, ℕ, suc, ◌+◌, ◌<◌, ◌≤◌, Bool, true, false, cond, ◌&&◌, ◌⊎◌, List, [], ◌∷◌, ◌++◌, map, length, take, drop, Some, None, Ok, Err, Option, Result, ◌≢◌, nat_le, nat_lt}
+use Rattle.std.specs.Prelude.{◌≡◌, ℕ, suc, ◌+◌, ◌<◌, ◌≤◌, Bool, true, false, cond, ◌&&◌, ◌⊎◌, List, [], ◌∷◌, ◌++◌, map, length, drop, Some, None, Ok, Err, Option, Result, ◌≢◌, nat_le, nat_lt}
+use Rattle.std.specs.Option.{option_map}
 use Rattle.routing.specs.Rules.{Rule, truth, mark, condition, both, either}
 use Rattle.tables.specs.declared.row.Row.{Row}
 use Rattle.tables.specs.declared.row.Operation.TheVariants.{Not as NotRow, Next as NextRow, Until as UntilRow, Always as AlwaysRow, Yes as YesRow}
@@ -10,7 +11,7 @@ use Rattle.rule_text.specs.declared.fault.FaultKind.TheVariants.{CannotFollow, T
 use Rattle.rule_text.specs.declared.word.Prefix.{Prefix}
 use Rattle.rule_text.specs.declared.word.Prefix.TheVariants.{Not, Ex, Ax, Ef, Af, Eg, Ag}
 use Rattle.rule_text.specs.declared.reader.Reader.{Reader}
-use Rattle.rule_text.specs.declared.rows.Rows.{Rows}
+use Rattle.rule_text.specs.declared.table.Table.{Table}
 use Rattle.rule_text.specs.declared.word.Quantifier.{Quantifier}
 use Rattle.rule_text.specs.declared.word.Quantifier.TheVariants.{Exists, Forall}
 use Rattle.rule_text.specs.declared.word.Word.{Word}
@@ -21,6 +22,7 @@ use Rattle.rule_text.specs.Texts.{Placed, words_from}
 use Rattle.rule_text.specs.Grammar.{prefix_rule, until_rule}
 use Rattle.rule_text.specs.Levels.{has_level}
 use Rattle.rule_text.specs.Rows.{rows_of, until_rows}
+use Rattle.rule_text.specs.Reading.{table_rows}
 
 -- A word that passed its first two tests, with its byte; or the fault of one that did not.
 pub data Item : Type 0 where
@@ -177,11 +179,13 @@ outcome end (bad e ∷ rest) s = Err e
 outcome end (good i w ∷ rest) s = moved i (has_level w && nat_le 32 (levels_at s)) (next_state s w) (outcome end rest)
 
 -- The rows so far; absent where they are over 32.
-abbrev pub kept : List Row → ℕ → Bool → Option (List Row)
-kept rows len over = cond over None (Some (take len rows))
+abbrev pub rows_kept : Option Table → Option (List Row)
+rows_kept t = option_map table_rows t
 
-abbrev pub rows_kept : Rows → Option (List Row)
-rows_kept t = kept t.rows t.len t.over
+-- Where rows are kept, the number of the next one.
+abbrev pub next_number : Option (List Row) → ℕ
+next_number None = 0
+next_number (Some rows) = length rows
 
 abbrev pub push_row : Option (List Row) → Row → Option (List Row)
 push_row None row = None
@@ -197,8 +201,8 @@ LastIs None r = Unit {0}
 LastIs (Some rows) r = length rows ≡ suc r
 
 -- The rows of the rule are added, and r is the number of the last one.
-pub record Added (t u : Rows) (f : Rule) (r : ℕ) : Type 0 where
-  pub rows_are : rows_kept u ≡ push_rows (rows_kept t) (rows_of t.len f)
+pub record Added (t u : Option Table) (f : Rule) (r : ℕ) : Type 0 where
+  pub rows_are : rows_kept u ≡ push_rows (rows_kept t) (rows_of (next_number (rows_kept t)) f)
   pub last_is : LastIs (rows_kept u) r
 
 -- The row before the part of a prefix.
@@ -262,7 +266,7 @@ Takes w a b (Ok u) = Took w a b
 Takes w a b (Err e) = Missed w a e
 
 -- `one` with n levels left: from any place before a part it comes behind the part, or to its fault.
-abbrev pub OneRead : ℕ → Reader → Reader → Rows → Rows → Result ℕ Fault → Type 0
+abbrev pub OneRead : ℕ → Reader → Reader → Option Table → Option Table → Result ℕ Fault → Type 0
 OneRead n a b t u (Ok r) =
     (f : Rule) × Added t u f r × (a.start < b.start)
     × ((xs : List Prefix) (o l : Option Rule) (K : Around) → length xs + depth K + n ≡ 32
@@ -272,7 +276,7 @@ OneRead n a b t u (Err e) =
     → outcome (end_of a) (unread a) (before_part xs o l K) ≡ Err e
 
 -- `both` with n levels left: the parts joined by `&`.
-abbrev pub BothRead : ℕ → Reader → Reader → Rows → Rows → Result ℕ Fault → Type 0
+abbrev pub BothRead : ℕ → Reader → Reader → Option Table → Option Table → Result ℕ Fault → Type 0
 BothRead n a b t u (Ok r) =
     (f : Rule) × Added t u f r × (a.start < b.start) × (b.word ≢ Some And)
     × ((o : Option Rule) (K : Around) → depth K + n ≡ 32
@@ -281,7 +285,7 @@ BothRead n a b t u (Err e) =
     (o : Option Rule) (K : Around) → depth K + n ≡ 32 → outcome (end_of a) (unread a) (before_part [] o None K) ≡ Err e
 
 -- `choice` with n levels left: a whole rule.
-abbrev pub ChoiceRead : ℕ → Reader → Reader → Rows → Rows → Result ℕ Fault → Type 0
+abbrev pub ChoiceRead : ℕ → Reader → Reader → Option Table → Option Table → Result ℕ Fault → Type 0
 ChoiceRead n a b t u (Ok r) =
     (o : Option Rule) × (f : Rule) × Added t u (or_with o f) r × (a.start < b.start) × (b.word ≢ Some And) × (b.word ≢ Some Or)
     × ((K : Around) → depth K + n ≡ 32
@@ -295,17 +299,17 @@ Enters n a b (Ok u) = (0 < n) × Stepped a b
 Enters n a b (Err e) = ((n ≡ 0) × (e ≡ fault TooDeep a.start)) ⊎ ((0 < n) × Fails a e)
 
 -- The loop of `both`, which began at a, t and v, and has come to b, u and r.
-abbrev pub Joining : ℕ → Reader → Reader → Rows → Rows → ℕ → ℕ → Type 0
+abbrev pub Joining : ℕ → Reader → Reader → Option Table → Option Table → ℕ → ℕ → Type 0
 Joining n a b t u v r =
-    (t₀ : Rows) (f₀ : Rule) → Added t₀ t f₀ v
+    (t₀ : Option Table) (f₀ : Rule) → Added t₀ t f₀ v
     → (f : Rule) × Added t₀ u f r
     × ((o : Option Rule) (K : Around) → depth K + n ≡ 32
     → outcome (end_of a) (unread a) (behind_part o f₀ K) ≡ outcome (end_of a) (unread b) (behind_part o f K))
 
 -- The loop of `choice`.
-abbrev pub Choosing : ℕ → Reader → Reader → Rows → Rows → ℕ → ℕ → Type 0
+abbrev pub Choosing : ℕ → Reader → Reader → Option Table → Option Table → ℕ → ℕ → Type 0
 Choosing n a b t u v r =
-    (t₀ : Rows) (o₀ : Option Rule) (f₀ : Rule) → Added t₀ t (or_with o₀ f₀) v
+    (t₀ : Option Table) (o₀ : Option Rule) (f₀ : Rule) → Added t₀ t (or_with o₀ f₀) v
     → (o : Option Rule) × (f : Rule) × Added t₀ u (or_with o f) r
     × ((K : Around) → depth K + n ≡ 32
     → outcome (end_of a) (unread a) (behind_part o₀ f₀ K) ≡ outcome (end_of a) (unread b) (behind_part o f K))

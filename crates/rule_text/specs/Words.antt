@@ -1,5 +1,8 @@
 -- The words of rule text: how a text parts into them, and which bytes spell which word.
-use Rattle.std.specs.Prelude.{ℕ, ◌+◌, ◌-◌, ◌*◌, Bool, true, false, cond, ◌&&◌, ◌||◌, List, [], ◌∷◌, Some, None, Ok, Err, codes, Option, Result, ◌==◌, nat_le, nat_lt}
+use Rattle.std.specs.Prelude.{ℕ, ◌+◌, ◌-◌, ◌*◌, Bool, true, cond, List, [], ◌∷◌, Some, None, Ok, Err, codes, Option, Result, ◌==◌, nat_lt}
+use Rattle.std.specs.Char.{is_ascii_digit}
+use Rattle.std.specs.Option.{option_map}
+use Rattle.std.specs.Str.{bytes_eq}
 use Rattle.rule_text.specs.declared.fault.FaultKind.{FaultKind}
 use Rattle.rule_text.specs.declared.fault.FaultKind.TheVariants.{UnknownWord, OutOfRange}
 use Rattle.rule_text.specs.declared.word.Prefix.{Prefix}
@@ -8,17 +11,10 @@ use Rattle.rule_text.specs.declared.word.Quantifier.TheVariants.{Exists, Forall}
 use Rattle.rule_text.specs.declared.word.Word.{Word}
 use Rattle.rule_text.specs.declared.word.Word.TheVariants.{Yes, Mark, Condition, Before, Routes, Until, And, Or, Open, Close, OpenSquare, CloseSquare}
 
-abbrev pub digit : ℕ → Bool
-digit b = nat_le 48 b && nat_le b 57
-
--- A digit, or an ASCII letter of either case.
-abbrev pub letter_or_digit : ℕ → Bool
-letter_or_digit b = digit b || ((nat_le 65 b && nat_le b 90) || (nat_le 97 b && nat_le b 122))
-
 -- The number that decimal digits write, after digits that write n.
 abbrev pub number_from : ℕ → List ℕ → Option ℕ
 number_from n [] = Some n
-number_from n (d ∷ ds) = cond (digit d) (number_from (n * 10 + (d - 48)) ds) None
+number_from n (d ∷ ds) = cond (is_ascii_digit d) (number_from (n * 10 + (d - 48)) ds) None
 
 -- A decimal number without leading zeros, of any length.
 abbrev pub number_of : List ℕ → Option ℕ
@@ -40,29 +36,19 @@ one_byte b =
     (cond (b == 91) (Some OpenSquare)
     (cond (b == 93) (Some CloseSquare) None)))))))))
 
-abbrev pub same_bytes : List ℕ → List ℕ → Bool
-same_bytes [] [] = true
-same_bytes [] (b ∷ bs) = false
-same_bytes (a ∷ s) [] = false
-same_bytes (a ∷ s) (b ∷ bs) = a == b && same_bytes s bs
-
 -- EX AX EF AF EG AG
 abbrev pub two_letters : List ℕ → Option Prefix
 two_letters s =
-    cond (same_bytes s (codes "EX")) (Some Ex)
-    (cond (same_bytes s (codes "AX")) (Some Ax)
-    (cond (same_bytes s (codes "EF")) (Some Ef)
-    (cond (same_bytes s (codes "AF")) (Some Af)
-    (cond (same_bytes s (codes "EG")) (Some Eg)
-    (cond (same_bytes s (codes "AG")) (Some Ag) None)))))
-
-abbrev pub option_map : {A B : Type 0} → (A → B) → Option A → Option B
-option_map f None = None
-option_map f (Some a) = Some (f a)
+    cond (bytes_eq s (codes "EX")) (Some Ex)
+    (cond (bytes_eq s (codes "AX")) (Some Ax)
+    (cond (bytes_eq s (codes "EF")) (Some Ef)
+    (cond (bytes_eq s (codes "AF")) (Some Af)
+    (cond (bytes_eq s (codes "EG")) (Some Eg)
+    (cond (bytes_eq s (codes "AG")) (Some Ag) None)))))
 
 -- yes and the two-letter words
 abbrev pub named_word : List ℕ → Option Word
-named_word s = cond (same_bytes s (codes "yes")) (Some Yes) (option_map Before (two_letters s))
+named_word s = cond (bytes_eq s (codes "yes")) (Some Yes) (option_map Before (two_letters s))
 
 -- The word that bytes spell, if any: m and c stand before a number.
 abbrev pub word_of : List ℕ → Option Word
@@ -92,3 +78,8 @@ in_range K CloseSquare = true
 abbrev pub tested : ℕ → Option Word → Result Word FaultKind
 tested K None = Err UnknownWord
 tested K (Some w) = cond (in_range K w) (Ok w) (Err OutOfRange)
+
+-- The same of a number that has to be below a limit.
+abbrev pub number_below : ℕ → Option ℕ → Result ℕ FaultKind
+number_below limit None = Err UnknownWord
+number_below limit (Some n) = cond (nat_lt n limit) (Ok n) (Err OutOfRange)

@@ -1,102 +1,88 @@
-// Reading a rule: choice, both and one call each other, as whole rules hold parts and parts hold whole rules.
-ghost use Rattle.std.specs.Prelude.{Some};
-ghost use Rattle.rule_text.specs.Descent.{BothRead, ChoiceRead, OneRead, Onward, Enters};
+// Reading a rule: choice, both and one call each other, as whole rules hold parts and parts hold
+// whole rules.
+ghost use Rattle.rule_text.specs.Descent.{BothRead, ChoiceRead, OneRead, Onward};
 
-use crate::emit::{AND, CONDITION, MARK, OR, YES, close_prefix, close_until, emit, open_prefix};
-use crate::fault::{Fault, FaultKind};
+use crate::emit::{close_prefix, close_until, emit, open_prefix};
+use crate::fault::Fault;
 use crate::reader::Reader;
-use crate::rows::Rows;
-use crate::split::{advance, has, take, unfit};
+use crate::table::Table;
 use crate::word::Word;
+use tables::row::Operation;
 
-// Goes past the word in hand, which opens or fills a level.
-fn enter(r: &mut Reader, levels: u32) -> Result<(), Fault>
-    ensures on { Onward r.old r.new }
-    ensures enters { Enters levels r.old r.new result }
-{
-    if levels == 0 {
-        return Err(Fault {
-            kind: FaultKind::TooDeep,
-            byte: r.start,
-        });
-    }
-    advance(r)
-}
-
-// A part: a word, a prefix with its part, a rule in brackets, or an until. Answers the number of its last row.
+// A part: a word, a prefix with its part, a rule in brackets, or an until.
+// Answers the number of its last row.
 #[cycle(both_choice_one)]
-fn one(r: &mut Reader, t: &mut Rows, levels: u32) -> Result<u8, Fault>
+fn one(r: &mut Reader, t: &mut Option<Table>, levels: u32) -> Result<u8, Fault>
     ensures on { Onward r.old r.new }
     ensures reads { OneRead levels r.old r.new t.old t.new result }
 {
     let Some(word) = r.word else {
-        return Err(unfit(r));
+        return Err(r.unfit());
     };
     match word {
         Word::Yes => {
-            enter(r, levels)?;
-            Ok(emit(t, YES, 0, 0))
+            r.enter(levels)?;
+            Ok(emit(t, Operation::Yes))
         }
         Word::Mark(k) => {
-            enter(r, levels)?;
-            Ok(emit(t, MARK, k, 0))
+            r.enter(levels)?;
+            Ok(emit(t, Operation::Mark(k)))
         }
         Word::Condition(k) => {
-            enter(r, levels)?;
-            Ok(emit(t, CONDITION, k, 0))
+            r.enter(levels)?;
+            Ok(emit(t, Operation::Condition(k)))
         }
         Word::Before(prefix) => {
-            enter(r, levels)?;
-            let first = t.len as u8;
-            open_prefix(t, prefix);
+            r.enter(levels)?;
+            let first = open_prefix(t, prefix);
             let part = one(r, t, levels - 1)?;
             Ok(close_prefix(t, prefix, first, part))
         }
         Word::Open => {
-            enter(r, levels)?;
+            r.enter(levels)?;
             let whole = choice(r, t, levels - 1)?;
-            take(r, Word::Close)?;
+            r.take(Word::Close)?;
             Ok(whole)
         }
         Word::Routes(quantifier) => {
-            enter(r, levels)?;
-            take(r, Word::OpenSquare)?;
+            r.enter(levels)?;
+            r.take(Word::OpenSquare)?;
             let p = choice(r, t, levels - 1)?;
-            take(r, Word::Until)?;
+            r.take(Word::Until)?;
             let q = choice(r, t, levels - 1)?;
-            take(r, Word::CloseSquare)?;
+            r.take(Word::CloseSquare)?;
             Ok(close_until(t, quantifier, p, q))
         }
-        _ => Err(unfit(r)),
+        _ => Err(r.unfit()),
     }
 }
 
 // Parts joined by `&`.
 #[cycle(both_choice_one)]
-fn both(r: &mut Reader, t: &mut Rows, levels: u32) -> Result<u8, Fault>
+fn both(r: &mut Reader, t: &mut Option<Table>, levels: u32) -> Result<u8, Fault>
     ensures on { Onward r.old r.new }
     ensures reads { BothRead levels r.old r.new t.old t.new result }
 {
     let mut left = one(r, t, levels)?;
-    while has(r, Word::And) {
-        advance(r)?;
+    while r.has(Word::And) {
+        r.advance()?;
         let right = one(r, t, levels)?;
-        left = emit(t, AND, left, right);
+        left = emit(t, Operation::And(left, right));
     }
     Ok(left)
 }
 
 // A whole rule: what `&` joins, joined by `|`.
 #[cycle(both_choice_one)]
-pub(crate) fn choice(r: &mut Reader, t: &mut Rows, levels: u32) -> Result<u8, Fault>
+pub(crate) fn choice(r: &mut Reader, t: &mut Option<Table>, levels: u32) -> Result<u8, Fault>
     ensures on { Onward r.old r.new }
     ensures reads { ChoiceRead levels r.old r.new t.old t.new result }
 {
     let mut left = both(r, t, levels)?;
-    while has(r, Word::Or) {
-        advance(r)?;
+    while r.has(Word::Or) {
+        r.advance()?;
         let right = both(r, t, levels)?;
-        left = emit(t, OR, left, right);
+        left = emit(t, Operation::Or(left, right));
     }
     Ok(left)
 }

@@ -7,11 +7,8 @@ ghost use Rattle.rule_text.specs.Reading.{Answer, Reading, StandsFor, table_rows
 use crate::fault::{Fault, FaultKind};
 use crate::parse::choice;
 use crate::reader::Reader;
-use crate::rows::Rows;
-use crate::split::{advance, unfit};
 use crate::table::Table;
 use conditions::set::ConditionSet;
-use tables::row::Row;
 
 const MOST_BYTES: usize = 200;
 
@@ -35,36 +32,24 @@ fn read_table(text: &[u8], conditions: u32) -> Result<Table, Fault>
         start: text.len(),
         next: 0,
     };
-    advance(&mut r)?;
-    let mut t = Rows {
-        rows: [Row {
-            operation: 0,
-            first: 0,
-            second: 0,
-        }; 32],
-        len: 0,
-        over: false,
-    };
+    r.advance()?;
+    let mut t = Some(Table::new());
     choice(&mut r, &mut t, MOST_LEVELS)?;
     if r.word.is_some() {
-        return Err(unfit(&r));
+        return Err(r.unfit());
     }
-    if t.over {
-        return Err(Fault {
-            kind: FaultKind::TooManyRows,
-            byte: text.len(),
-        });
-    }
-    Ok(Table {
-        rows: t.rows,
-        len: t.len,
+    t.ok_or(Fault {
+        kind: FaultKind::TooManyRows,
+        byte: text.len(),
     })
 }
 
 // The table of the rule that the text is, for a condition set, or its fault.
 pub fn read_rule<S: ConditionSet>(text: &[u8]) -> Result<Table, Fault>
     ensures answer { Answer S.ConditionSet.count text.now result }
-    ensures means { IfOk result (λ t. (f : Rule) → Reading S.ConditionSet.count text.now (Ok f) → StandsFor (table_rows t) f) }
+    ensures means { IfOk result
+        (λ t. (f : Rule) → Reading S.ConditionSet.count text.now (Ok f)
+        → StandsFor (table_rows t) f) }
     ensures accepted { IfOk result (λ t. accepted S.ConditionSet.count (table_rows t) ≡ true) }
 {
     read_table(text, S::conditions())

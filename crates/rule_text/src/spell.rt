@@ -1,43 +1,48 @@
 // Telling words apart.
-ghost use Rattle.std.specs.Prelude.{◌≡◌, ℕ, ◌+◌, ◌*◌, ◌<◌, ◌≤◌, min, true, false, Some, None, MatchOption};
-ghost use Rattle.rule_text.specs.Words.{letter_or_digit, named_word, number_from, number_of, one_byte, option_map, tested, two_letters, word_of};
-ghost use Rattle.rule_text.specs.declared.word.Word.TheVariants.{Mark as MarkWord, Condition as ConditionWord};
+ghost use Rattle.std.specs.Prelude.{◌≡◌, ℕ, ◌≤◌, min, Some, None, MatchOption};
+ghost use Rattle.rule_text.specs.Words.{named_word, number_below, number_from, number_of, one_byte, tested, two_letters, word_of};
 
 use crate::fault::FaultKind;
 use crate::word::{Prefix, Quantifier, Word};
 
-// Whether the byte is a letter or a digit.
-pub(crate) fn is_letter_or_digit(b: u8) -> bool
-    ensures { result ≡ letter_or_digit b }
-{
-    match b {
-        b'0'..=b'9' | b'A'..=b'Z' | b'a'..=b'z' => true,
-        _ => false,
-    }
-}
+const MARKS: u32 = 32;
 
 // The value of the digits, or 255 where it is more; absent where one of them is no digit.
 fn value(digits: &[u8]) -> Option<u8>
-    ensures { MatchOption result (number_from 0 digits.now ≡ None) (λ v. (n : ℕ) × (number_from 0 digits.now ≡ Some n) × (v ≡ min n 255)) }
+    ensures { MatchOption result (number_from 0 digits.now ≡ None)
+        (λ v. (n : ℕ) × (number_from 0 digits.now ≡ Some n) × (v ≡ min n 255)) }
 {
-    let mut value: u16 = 0;
-    for d in digits {
-        match *d {
-            b'0'..=b'9' => value = (value * 10 + (*d - b'0') as u16).min(255),
-            _ => return None,
+    let mut value = 0u8;
+    for &digit in digits {
+        if !digit.is_ascii_digit() {
+            return None;
         }
+        value = value.saturating_mul(10).saturating_add(digit - b'0');
     }
-    Some(value as u8)
+    Some(value)
 }
 
 // The number that the digits write, or 255 where it is more; absent where they write none.
 fn number(digits: &[u8]) -> Option<u8>
-    ensures { MatchOption result (number_of digits.now ≡ None) (λ v. (n : ℕ) × (number_of digits.now ≡ Some n) × (v ≡ min n 255)) }
+    ensures { MatchOption result (number_of digits.now ≡ None)
+        (λ v. (n : ℕ) × (number_of digits.now ≡ Some n) × (v ≡ min n 255)) }
 {
     match digits {
-        [] => None,
-        [b'0', _, ..] => None,
+        [] | [b'0', _, ..] => None,
         _ => value(digits),
+    }
+}
+
+// The number that the digits write, which has to be below the limit.
+fn number_below(digits: &[u8], limit: u32) -> Result<u8, FaultKind>
+    requires { limit ≤ 32 }
+    ensures { result ≡ number_below limit (number_of digits.now) }
+{
+    let k = number(digits).ok_or(FaultKind::UnknownWord)?;
+    if u32::from(k) < limit {
+        Ok(k)
+    } else {
+        Err(FaultKind::OutOfRange)
     }
 }
 
@@ -75,45 +80,13 @@ fn one_byte(b: u8) -> Option<Word>
     }
 }
 
-// The word of a mark with these digits.
-fn mark(digits: &[u8]) -> Result<Word, FaultKind>
-    ensures { result ≡ tested 0 (option_map MarkWord (number_of digits.now)) }
-{
-    match number(digits) {
-        None => Err(FaultKind::UnknownWord),
-        Some(k) => if k < 32 {
-            Ok(Word::Mark(k))
-        } else {
-            Err(FaultKind::OutOfRange)
-        },
-    }
-}
-
-// The word of a condition with these digits.
-fn condition(digits: &[u8], conditions: u32) -> Result<Word, FaultKind>
-    requires { conditions ≤ 16 }
-    ensures { result ≡ tested conditions (option_map ConditionWord (number_of digits.now)) }
-{
-    match number(digits) {
-        None => Err(FaultKind::UnknownWord),
-        Some(k) => if (k as u32) < conditions {
-            Ok(Word::Condition(k))
-        } else {
-            Err(FaultKind::OutOfRange)
-        },
-    }
-}
-
 // The words of fixed letters, `yes` and the two-letter words.
 fn named(letters: &[u8]) -> Option<Word>
     ensures { result ≡ named_word letters.now }
 {
-    if let [b'y', b'e', b's'] = letters {
-        return Some(Word::Yes);
-    }
-    match two_letters(letters) {
-        Some(prefix) => Some(Word::Before(prefix)),
-        None => None,
+    match letters {
+        [b'y', b'e', b's'] => Some(Word::Yes),
+        _ => two_letters(letters).map(Word::Before),
     }
 }
 
@@ -124,8 +97,8 @@ pub(crate) fn read_word(bytes: &[u8], conditions: u32) -> Result<Word, FaultKind
 {
     match bytes {
         [b] => one_byte(*b).ok_or(FaultKind::UnknownWord),
-        [b'm', digits @ ..] => mark(digits),
-        [b'c', digits @ ..] => condition(digits, conditions),
+        [b'm', digits @ ..] => number_below(digits, MARKS).map(Word::Mark),
+        [b'c', digits @ ..] => number_below(digits, conditions).map(Word::Condition),
         _ => named(bytes).ok_or(FaultKind::UnknownWord),
     }
 }

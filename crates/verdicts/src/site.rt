@@ -1,5 +1,6 @@
 // Judging lent marks and binding records at their entries.
-ghost use Rattle.std.specs.Prelude.{◌≡◌, ◌-◌, length, Some, None, MatchResult};
+ghost use Rattle.std.specs.Prelude.{◌≡◌, ◌-◌, length, IfOk, OnErr};
+ghost use Rattle.std.specs.Result.{result_err};
 ghost use Rattle.routing.specs.Bindings.{net_of};
 ghost use Rattle.routing.specs.Refusals.{opening};
 ghost use Rattle.routing.specs.Rules.{Means};
@@ -23,10 +24,7 @@ pub fn site_refusal<'a, S: ConditionSet>(
 ) -> Option<Refusal>
     ensures { result ≡ opening marks.now records.now }
 {
-    match SiteTable::open(marks, records) {
-        Ok(_) => None,
-        Err(refusal) => Some(refusal),
-    }
+    SiteTable::open(marks, records).err()
 }
 
 // Opens a site table on the lent lists and judges it at its entries.
@@ -37,10 +35,19 @@ pub fn judge_site<'a, S: ConditionSet>(
     main: &mut [S],
     spare: &mut [S],
 ) -> Result<Judgement, Refusal>
-    ensures { MatchResult result (λ j. (site_refusal S.ConditionSet.count S.ConditionSet.holds marks.now records.now table.now (length main.old) (length spare.old) ≡ None) × Judged S.ConditionSet.holds (net_of S.ConditionSet.count S.ConditionSet.holds marks.now records.now) table.now main.old main.new j.rounds × Told (net_of S.ConditionSet.count S.ConditionSet.holds marks.now records.now) (Means (net_of S.ConditionSet.count S.ConditionSet.holds marks.now records.now) (rule_at table.now (length table.now - 1))) j.verdict) (λ e. (site_refusal S.ConditionSet.count S.ConditionSet.holds marks.now records.now table.now (length main.old) (length spare.old) ≡ Some e) × (main.new ≡ main.old) × (spare.new ≡ spare.old)) }
+    ensures refusal { result_err result
+        ≡ site_refusal S.ConditionSet.count S.ConditionSet.holds
+        marks.now records.now table.now (length main.old) (length spare.old) }
+    ensures judged { IfOk result (λ j. Judged S.ConditionSet.holds
+        (net_of S.ConditionSet.count S.ConditionSet.holds marks.now records.now)
+        table.now main.old main.new j.rounds) }
+    ensures told { IfOk result (λ j. Told
+        (net_of S.ConditionSet.count S.ConditionSet.holds marks.now records.now)
+        (Means (net_of S.ConditionSet.count S.ConditionSet.holds marks.now records.now)
+        (rule_at table.now (length table.now - 1))) j.verdict) }
+    ensures main { OnErr result (main.new ≡ main.old) }
+    ensures spare { OnErr result (spare.new ≡ spare.old) }
 {
-    match SiteTable::open(marks, records) {
-        Ok(site) => judge_entries(&site, table, main, spare),
-        Err(refusal) => Err(refusal),
-    }
+    let site = SiteTable::open(marks, records)?;
+    judge_entries(&site, table, main, spare)
 }

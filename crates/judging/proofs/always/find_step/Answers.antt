@@ -6,10 +6,10 @@ use Rattle.judging.specs.Steps.{as_pos}
 use Rattle.judging.proofs.Seen.{nth_pos, length_pos, index_found, index_none}
 use Rattle.judging.proofs.always.find_step.Goals as goal
 
-pub returns-then-at-step : goal.returns-then-at-step
-returns-then-at-step c =
+pub returns-then-eq : goal.returns-then-eq
+returns-then-eq c =
     sym (index_found (as_pos c.args.at) (map as_pos c.args.seen.now) c.loop-i.i _
-    (nth_pos c.args.seen.now c.loop-i.i (record { place = 0; setting = 0 }) c.loop-i-test.true) c.if-at-step.true c.loop-i.invariant)
+    (nth_pos c.args.seen.now c.loop-i.i (record { place = 0; setting = 0 }) c.loop-i-test.true) (sym c.eq.ensures ∙ c.if-eq.true) c.loop-i.invariant)
 
 pub loop-i-preserved : goal.loop-i-preserved
 loop-i-preserved c = λ k y below e.
@@ -19,7 +19,7 @@ loop-i-preserved c = λ k y below e.
     ⊎_elim
     (λ q. let f : slice_get (map as_pos seen) i ≡ Some y = ap (slice_get (map as_pos seen)) (sym q) ∙ e in
     let same : as_pos (get_or seen i (record { place = 0; setting = 0 })) ≡ y = cc in
-    ap (same_pos (as_pos c.args.at)) (sym same) ∙ c.if-at-step.false)
+    ap (same_pos (as_pos c.args.at)) (sym same) ∙ (sym c.eq.ensures ∙ c.if-eq.false))
     (λ ne. c.loop-i.invariant k y (omega arith) e)
     (cases_eq k i)
 

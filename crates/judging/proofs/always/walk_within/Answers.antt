@@ -89,7 +89,7 @@ returns-in-None-find_step g c =
     let n = c.places-n.result in
     let at = c.loop-count.at in
     let last : k ≡ n + 1 = omega arith in
-    let empty : places N + 1 - k ≡ 0 = (let v = c.places-n.ensures.value in omega arith) in
+    let empty : places N + 1 - k ≡ 0 = (let v = c.places-n.ensures in omega arith) in
     written_front _ c.args.steps.now steps (n + 1) _ (let l = c.loop-count.invariant.2 in omega arith)
     (c.loop-count.invariant.0 ∙ ap (λ j. walk_always N X (places N + 1 - k) (map as_pos (take j steps)) (as_pos at)) last
     ∙ ap (λ f. walk_always N X f (map as_pos (take (n + 1) steps)) (as_pos at)) empty

@@ -13,4 +13,4 @@ invariant-loop-round g l =
     let T : ℕ → Pos → Bool = grown N (covers holds l.p) (covers holds l.initial.part) in
     ((y : Pos) → Within N y → covers holds l.part y ≡ T l.round y)
     × ((j : ℕ) → j < l.round → T j (as_pos l.start) ≡ false)
-    × Noted N T l.round l.rounds l.settings
+    × Noted N T l.round l.notes

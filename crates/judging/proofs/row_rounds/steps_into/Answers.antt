@@ -25,7 +25,7 @@ loop-i-preserved g c = λ x within.
     let i = c.loop-i.i in
     let goal : List g.row.N-Set.Denot → Type 0 = λ o. Decides (covers holds o x) (Into N X (i + 1) x) in
     let below : (y : Pos) → X y → y.setting < settings N =
-    λ y h. subst (λ (k : ℕ). y.setting < 2 ^ k) (sym c.requires.over) (covers_below holds g.N.Set.ConditionSet.count g.met.N.Set.ConditionSet.below sets y h) in
+    λ y h. subst (λ (k : ℕ). y.setting < 2 ^ k) (sym (g.met.N.Network.over c.args.net.now)) (covers_below holds g.N.Set.ConditionSet.count g.met.N.Set.ConditionSet.below sets y h) in
     elim c.match-binding.branch [
       | in-Some w ↦
           let in_out : x.place < length out = omega (arith, within.place_in) in

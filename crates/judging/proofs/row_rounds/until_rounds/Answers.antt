@@ -1,64 +1,30 @@
-use Rattle.std.proofs.Common.{◌≡◌, ℕ, suc, length, sym, subst, arith}
+use Rattle.std.proofs.Common.{rules, ℕ, suc, Bool, ◌&&◌, ◌||◌}
 use Rattle.routing.specs.Net.{Pos, Net, places}
 use Rattle.rounds.specs.Claims.{Is}
-use Rattle.rounds.specs.Rounds.{Grown, Stable, Decided}
+use Rattle.rounds.specs.Rounds.{Grown, Decided}
+use Rattle.rounds.specs.Truth.{grown}
 use Rattle.rounds.proofs.Settle.{until_settled}
+use Rattle.rounds.proofs.Truth.{grown_decides}
 use Rattle.judging.specs.Judged.{covers}
-use Rattle.judging.proofs.Turns.{grown_turn, turn_ends, turn_keeps, lists_same, lists_go_on, least_at, has_at}
+use Rattle.judging.proofs.Turns.{grown_turn, has_of_test, test_of_has, stable_of_has, least_of_test}
 use Rattle.judging.proofs.row_rounds.until_rounds.Goals as goal
-
-pub loop-round-init : goal.loop-round-init
-loop-round-init g c = record { has = λ x w. (λ e. e, λ e. e); moving = λ j l. absurd (omega arith) }
-
-pub loop-round-preserved : goal.loop-round-preserved
-loop-round-preserved g c =
-    let holds = g.N.Set.ConditionSet.holds in
-    let N : Net = g.N.Network.meaning c.args.net.now in
-    let T : ℕ → Pos → Type 0 = Grown N (Is (covers holds c.args.p.now)) (Is (covers holds c.args.part.now)) in
-    let i = c.loop-round.round in
-    let part = c.loop-round.part in
-    let after = c.grow.new.sets in
-    let long : length part ≡ places N = omega arith in
-    let next : Decided N (covers holds after) (T (suc i)) =
-    grown_turn N (Is (covers holds c.args.p.now)) (Is (covers holds c.args.part.now)) (covers holds c.args.p.now) (covers holds part) (covers holds c.steps_into.new.out) (covers holds after) i
-    (λ x w. (λ e. e, λ e. e)) c.loop-round.invariant.has c.steps_into.ensures (λ x w. c.grow.ensures.after x (let l = w.place_in in omega arith)) in
-    lists_go_on holds g.N.Set.ConditionSet.count g.met.N.Set.ConditionSet.below N c.requires.over T part after i long c.loop-round.invariant next
-    c.grow.result c.grow.ensures.same c.if-grow.false
-
-pub returns-then-grow : goal.returns-then-grow
-returns-then-grow g c =
-    let holds = g.N.Set.ConditionSet.holds in
-    let N : Net = g.N.Network.meaning c.args.net.now in
-    let T : ℕ → Pos → Type 0 = Grown N (Is (covers holds c.args.p.now)) (Is (covers holds c.args.part.now)) in
-    let i = c.loop-round.round in
-    let part = c.loop-round.part in
-    let after = c.grow.new.sets in
-    let long : length part ≡ places N = omega arith in
-    let next : Decided N (covers holds after) (T (suc i)) =
-    grown_turn N (Is (covers holds c.args.p.now)) (Is (covers holds c.args.part.now)) (covers holds c.args.p.now) (covers holds part) (covers holds c.steps_into.new.out) (covers holds after) i
-    (λ x w. (λ e. e, λ e. e)) c.loop-round.invariant.has c.steps_into.ensures (λ x w. c.grow.ensures.after x (let l = w.place_in in omega arith)) in
-    let same = lists_same holds g.N.Set.ConditionSet.count g.met.N.Set.ConditionSet.below N c.requires.over T part after i long c.loop-round.invariant next
-    c.grow.result c.grow.ensures.same c.if-grow.true in
-    record {
-      few = omega arith;
-      least = turn_ends N T (covers holds part) (covers holds after) i c.loop-round.invariant next same;
-      after = turn_keeps N T (covers holds part) (covers holds after) i c.loop-round.invariant next same;
-    }
 
 pub returns : goal.returns
 returns g c =
     let holds = g.N.Set.ConditionSet.holds in
     let N : Net = g.N.Network.meaning c.args.net.now in
-    let T : ℕ → Pos → Type 0 = Grown N (Is (covers holds c.args.p.now)) (Is (covers holds c.args.part.now)) in
-    let n = c.places-n.result in
-    let i = c.loop-round.round in
-    let b = covers holds c.loop-round.part in
-    let e : i ≡ places N = omega arith in
-    let settled : Stable N T (places N) = until_settled N (covers holds c.args.p.now) (covers holds c.args.part.now) (Is (covers holds c.args.p.now)) (Is (covers holds c.args.part.now)) (λ x w. (λ e. e, λ e. e)) (λ x w. (λ e. e, λ e. e)) in
-    let f : n ≡ places N = c.places-n.ensures.value in
-    let last : i ≡ n = omega arith in
+    let p : Pos → Bool = covers holds c.args.p.now in
+    let q : Pos → Bool = covers holds c.args.part.now in
+    let t : ℕ → Pos → Bool = grown N p q in
+    let T : ℕ → Pos → Type 0 = Grown N (Is p) (Is q) in
+    let decide : (i : ℕ) → Decided N (t i) (T i) = grown_decides N p q (Is p) (Is q) (λ x w. (λ e. e, λ e. e)) (λ x w. (λ e. e, λ e. e)) in
+    let settled = c.settle.ensures.least (λ s p q. s || (p && q)) t (λ s p q v post a. search rules)
+    (λ b into after i has steps made. test_of_has N t T decide after (suc i)
+    (grown_turn N (Is p) (Is q) p b into after i (λ x w. (λ e. e, λ e. e)) (has_of_test N t T decide b i has) steps made))
+    (test_of_has N t T decide q 0 (λ x w. (λ e. e, λ e. e)))
+    (stable_of_has N t T decide (places N) (until_settled N p q (Is p) (Is q) (λ x w. (λ e. e, λ e. e)) (λ x w. (λ e. e, λ e. e)))) in
     record {
-      few = omega arith;
-      least = least_at N T b i n last c.loop-round.invariant (subst (Stable N T) (sym f) settled);
-      after = has_at N T b i n last c.loop-round.invariant;
+      few = c.settle.ensures.few;
+      least = least_of_test N t T decide c.settle.result settled.0;
+      after = has_of_test N t T decide (covers holds c.settle.new.part) c.settle.result settled.1;
     }

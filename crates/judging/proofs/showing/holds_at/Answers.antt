@@ -13,20 +13,20 @@ inside place n m row main part e l room is =
 
 pub part_of-part-requires : goal.part_of-part-requires
 part_of-part-requires g c =
-    subst (λ (k : ℕ). c.args.row * k + k ≤ length c.args.main.now) (sym c.places.ensures.value) c.requires.room
+    subst (λ (k : ℕ). c.args.row * k + k ≤ length c.args.main.now) (sym c.places.ensures) c.requires.room
 
 pub bounds-part-at : goal.bounds-part-at
-bounds-part-at g c = inside c.args.at.place _ _ c.args.row c.args.main.now _ c.places.ensures.value c.requires.inside c.requires.room c.part_of-part.ensures
+bounds-part-at g c = inside c.args.at.place _ _ c.args.row c.args.main.now _ c.places.ensures c.requires.inside c.requires.room c.part_of-part.ensures
 
 pub offset_bounds-part-at : goal.offset_bounds-part-at
-offset_bounds-part-at g c = let l = inside c.args.at.place _ _ c.args.row c.args.main.now _ c.places.ensures.value c.requires.inside c.requires.room c.part_of-part.ensures in omega arith
+offset_bounds-part-at g c = let l = inside c.args.at.place _ _ c.args.row c.args.main.now _ c.places.ensures c.requires.inside c.requires.room c.part_of-part.ensures in omega arith
 
 pub returns : goal.returns
 returns g c =
     let holds = g.N.Set.ConditionSet.holds in
     let main = c.args.main.now in
     let part = c.part_of-part.result.now in
-    let l = inside c.args.at.place _ _ c.args.row main part c.places.ensures.value c.requires.inside c.requires.room c.part_of-part.ensures in
+    let l = inside c.args.at.place _ _ c.args.row main part c.places.ensures c.requires.inside c.requires.room c.part_of-part.ensures in
     c.contains.ensures ∙ sym (covers_read holds part (as_pos c.args.at) c.index-part-at.result l c.index-part-at.is)
     ∙ ap (λ (xs : List g.row.N-Set.Denot). covers holds xs (as_pos c.args.at)) c.part_of-part.ensures
-    ∙ ap (λ n. covers holds (row_part n c.args.row main) (as_pos c.args.at)) c.places.ensures.value
+    ∙ ap (λ n. covers holds (row_part n c.args.row main) (as_pos c.args.at)) c.places.ensures

@@ -19,25 +19,25 @@ two_seen [] s t l = absurd (omega arith)
 two_seen (x ∷ []) s t l = absurd (omega arith)
 two_seen (x ∷ y ∷ xs) s t l = refl
 
-pub returns-then-next-at : goal.returns-then-next-at
+pub returns-then-eq : goal.returns-then-eq
 unfolding chosen_next
-returns-then-next-at g c =
+returns-then-eq g c =
     let steps = c.args.steps.now in
     let at = c.args.at in
     let next = c.in-Some.next in
     written_front _ steps (set steps 0 at) 1 (Returns 0) (simp length-set (omega arith))
-    (ap (chosen_next (as_pos at)) (next_is _ next (sym c.in-Some.is ∙ c.next_into.ensures)) ∙ cond-true _ _ _ c.if-next-at.true
+    (ap (chosen_next (as_pos at)) (next_is _ next (sym c.in-Some.is ∙ c.next_into.ensures)) ∙ cond-true _ _ _ (sym c.eq.ensures ∙ c.if-eq.true)
     ∙ ap (λ (ps : List Pos). record { positions = ps; ending = Returns 0 }) (one_seen steps at c.requires.room))
     (drop-set-lt 1 steps 0 at (omega arith))
 
-pub returns-else-next-at : goal.returns-else-next-at
+pub returns-else-eq : goal.returns-else-eq
 unfolding chosen_next
-returns-else-next-at g c =
+returns-else-eq g c =
     let steps = c.args.steps.now in
     let at = c.args.at in
     let next = c.in-Some.next in
     written_front _ steps (set (set steps 0 at) 1 next) 2 Reaches (simp length-set (omega arith))
-    (ap (chosen_next (as_pos at)) (next_is _ next (sym c.in-Some.is ∙ c.next_into.ensures)) ∙ cond-false _ _ _ c.if-next-at.false
+    (ap (chosen_next (as_pos at)) (next_is _ next (sym c.in-Some.is ∙ c.next_into.ensures)) ∙ cond-false _ _ _ (sym c.eq.ensures ∙ c.if-eq.false)
     ∙ ap (λ (ps : List Pos). record { positions = ps; ending = Reaches }) (two_seen steps at next c.requires.room))
     (drop-set-lt 2 (set steps 0 at) 1 next (omega arith) ∙ drop-set-lt 2 steps 0 at (omega arith))
 

@@ -15,8 +15,8 @@ pub part_of-requires : goal.part_of-requires
 part_of-requires g c =
     let n = c.places-n.result in
     let row = c.args.row in
-    let room : row * n + n ≤ length c.args.main.now = subst (λ (m : ℕ). row * m + m ≤ length c.args.main.now) (sym c.places-n.ensures.value) c.requires.room.0 in
-    let first : c.in-Next.p < row = subst (λ (o : Operation). first_is_row o ≡ true → (coded o).first < row) c.in-Next.is c.requires.earlier.0 refl in
+    let room : row * n + n ≤ length c.args.main.now = subst (λ (m : ℕ). row * m + m ≤ length c.args.main.now) (sym c.places-n.ensures) c.requires.room in
+    let first : c.in-Next.p < row = subst (λ (o : Operation). first_is_row o ≡ true → (coded o).first < row) c.in-Next.is c.requires.first refl in
     let b = part_before c.in-Next.p row n first in
     omega arith
 
@@ -24,32 +24,31 @@ pub show_next-requires : goal.show_next-requires
 show_next-requires g c =
     let n = c.places-n.result in
     let row = c.args.row in
-    let room : row * n + n ≤ length c.args.main.now = subst (λ (m : ℕ). row * m + m ≤ length c.args.main.now) (sym c.places-n.ensures.value) c.requires.room.0 in
-    let first : c.in-Next.p < row = subst (λ (o : Operation). first_is_row o ≡ true → (coded o).first < row) c.in-Next.is c.requires.earlier.0 refl in
+    let room : row * n + n ≤ length c.args.main.now = subst (λ (m : ℕ). row * m + m ≤ length c.args.main.now) (sym c.places-n.ensures) c.requires.room in
+    let first : c.in-Next.p < row = subst (λ (o : Operation). first_is_row o ≡ true → (coded o).first < row) c.in-Next.is c.requires.first refl in
     let b = part_before c.in-Next.p row n first in
     let inside = c.requires.inside.place_in in
-    let steps = c.requires.room.1.1 in
-    record { over = c.requires.over; long = ap length c.part_of.ensures ∙ part_long n c.in-Next.p c.args.main.now (omega arith) ∙ c.places-n.ensures.value; room = omega arith }
+    let steps = c.requires.list in
+    record { sets = ap length c.part_of.ensures ∙ part_long n c.in-Next.p c.args.main.now (omega arith) ∙ c.places-n.ensures; room = omega arith }
 
 pub show_until-requires : goal.show_until-requires
 show_until-requires g c =
     let row = c.args.row in
     record {
-      over = c.requires.over;
-      earlier = (
-        subst (λ (o : Operation). first_is_row o ≡ true → (coded o).first < row) c.in-Until.is c.requires.earlier.0 refl,
-        subst (λ (o : Operation). second_is_row o ≡ true → (coded o).second < row) c.in-Until.is c.requires.earlier.1 refl,
-      );
+      first = subst (λ (o : Operation). first_is_row o ≡ true → (coded o).first < row) c.in-Until.is c.requires.first refl;
+      second = subst (λ (o : Operation). second_is_row o ≡ true → (coded o).second < row) c.in-Until.is c.requires.second refl;
       inside = c.requires.inside;
       room = c.requires.room;
+      halves = c.requires.halves;
+      list = c.requires.list;
     }
 
 pub walk_within-requires : goal.walk_within-requires
 walk_within-requires g c =
     let n = c.places-n.result in
     let row = c.args.row in
-    let room : row * n + n ≤ length c.args.main.now = subst (λ (m : ℕ). row * m + m ≤ length c.args.main.now) (sym c.places-n.ensures.value) c.requires.room.0 in
-    record { over = c.requires.over; long = ap length c.part_of-in-Always.ensures ∙ part_long n row c.args.main.now room ∙ c.places-n.ensures.value; room = c.requires.room.1.1 }
+    let room : row * n + n ≤ length c.args.main.now = subst (λ (m : ℕ). row * m + m ≤ length c.args.main.now) (sym c.places-n.ensures) c.requires.room in
+    record { sets = ap length c.part_of-in-Always.ensures ∙ part_long n row c.args.main.now room ∙ c.places-n.ensures; room = c.requires.list }
 
 pub returns-in-Next : goal.returns-in-Next
 returns-in-Next g c =
@@ -59,7 +58,7 @@ returns-in-Next g c =
     let x : Pos = as_pos c.args.at in
     let W : Chosen → Type 0 = λ k. Written k c.args.steps.now c.show_next.new.steps c.show_next.result in
     let part : W (chosen_next x (next_in N (covers holds (row_part (places N) c.in-Next.p main)) x)) =
-    subst (λ (m : ℕ). W (chosen_next x (next_in N (covers holds (row_part m c.in-Next.p main)) x))) c.places-n.ensures.value
+    subst (λ (m : ℕ). W (chosen_next x (next_in N (covers holds (row_part m c.in-Next.p main)) x))) c.places-n.ensures
     (subst (λ (xs : List g.row.N-Set.Denot). W (chosen_next x (next_in N (covers holds xs) x))) c.part_of.ensures c.show_next.ensures) in
     subst (λ (o : Operation). W (chosen_by N o (covers holds (row_part (places N) (coded o).first main)) (covers holds (row_part (places N) (coded o).second main)) (covers holds (row_part (places N) c.args.row main)) x)) (sym c.in-Next.is) part
 
@@ -80,7 +79,7 @@ returns-in-Always g c =
     let x : Pos = as_pos c.args.at in
     let W : Chosen → Type 0 = λ k. Written k c.args.steps.now c.walk_within.new.steps c.walk_within.result in
     let part : W (walk_always N (covers holds (row_part (places N) c.args.row main)) (places N + 1) [] x) =
-    subst (λ (m : ℕ). W (walk_always N (covers holds (row_part m c.args.row main)) (places N + 1) [] x)) c.places-n.ensures.value
+    subst (λ (m : ℕ). W (walk_always N (covers holds (row_part m c.args.row main)) (places N + 1) [] x)) c.places-n.ensures
     (subst (λ (xs : List g.row.N-Set.Denot). W (walk_always N (covers holds xs) (places N + 1) [] x)) c.part_of-in-Always.ensures c.walk_within.ensures) in
     subst (λ (o : Operation). W (chosen_by N o (covers holds (row_part (places N) (coded o).first main)) (covers holds (row_part (places N) (coded o).second main)) (covers holds (row_part (places N) c.args.row main)) x)) (sym c.in-Always.is) part
 

@@ -1,11 +1,10 @@
-use Rattle.std.proofs.Common.{suc, List, sym, refl, ap, ◌∙◌, subst, arith}
+use Rattle.std.proofs.Common.{suc, List, None, sym, refl, ap, ◌∙◌, subst, arith}
 use Rattle.std.proofs.lemmas.List.{get_or-replicate}
 use Rattle.routing.specs.Net.{Net, Pos, places}
 use Rattle.rounds.specs.Truth.{grown}
 use Rattle.judging.specs.declared.shown.Ending.TheVariants.{Reaches}
 use Rattle.judging.specs.Chosen.{Chosen}
 use Rattle.judging.specs.Judged.{covers}
-use Rattle.judging.specs.Notes.{never}
 use Rattle.judging.specs.Steps.{as_pos, Written}
 use Rattle.judging.proofs.Choices.{least_out}
 use Rattle.judging.proofs.Hops.{until_some, until_none, noted_walk}
@@ -15,20 +14,20 @@ pub note_rounds-requires : goal.note_rounds-requires
 note_rounds-requires g c =
     let few = (g.N.Network.fits c.args.net.now).few_places in
     record {
-      over = c.requires.over;
-      lengths = c.requires.lengths;
-      room = (omega arith, omega arith);
+      part = c.requires.part;
+      p = c.requires.p;
+      into = c.requires.into;
+      room = omega arith;
       inside = c.requires.inside;
-      fresh = λ t l. get_or-replicate 256 t never 0 (omega arith);
+      fresh = λ t l. get_or-replicate 256 t None None (omega arith);
     }
 
 pub walk_down-requires : goal.walk_down-requires
 walk_down-requires g c =
     let few = (g.N.Network.fits c.args.net.now).few_places in
     let d = (least_out (suc (places (g.N.Network.meaning c.args.net.now))) _ c.in-Some.hops (sym c.in-Some.ensures.hops)).0 in
-    let r = c.note_rounds.auto.rounds in
-    let s = c.note_rounds.auto.settings in
-    record { room = (omega arith, omega arith); list = omega arith }
+    let kept = c.note_rounds.auto.notes in
+    record { room = omega arith; list = omega arith }
 
 pub returns-in-Some : goal.returns-in-Some
 returns-in-Some g c =
@@ -41,7 +40,7 @@ returns-in-Some g c =
     let o = least_out (suc (places N)) (λ i. grown N p q i x) d (sym c.in-Some.ensures.hops) in
     let is = until_some N p q x d c.in-Some.ensures.hops
     ∙ ap (λ (ps : List Pos). record { positions = ps; ending = Reaches })
-    (sym (noted_walk N p q (g.N.Network.fits c.args.net.now) d _ _ c.in-Some.ensures.notes d (omega arith) x o.1 (λ e s. o.2 e (omega arith)))) in
+    (sym (noted_walk N p q (g.N.Network.fits c.args.net.now) d _ c.in-Some.ensures.notes d (omega arith) x o.1 (λ e s. o.2 e (omega arith)))) in
     subst (λ (k : Chosen). Written k c.args.steps.now c.walk_down.new.steps c.walk_down.result) (sym is) c.walk_down.ensures
 
 pub returns-in-None : goal.returns-in-None

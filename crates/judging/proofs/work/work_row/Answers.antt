@@ -1,4 +1,4 @@
-use Rattle.std.proofs.Common.{◌≡◌, ◌^◌, ◌<◌, Bool, not, ◌&&◌, ◌||◌, List, length, get_or, refl, ap, ◌∙◌, subst, arith}
+use Rattle.std.proofs.Common.{rules, ◌≡◌, ◌^◌, ◌<◌, Bool, not, ◌&&◌, ◌||◌, List, length, get_or, refl, ap, ◌∙◌, subst, arith}
 use Rattle.std.proofs.lemmas.Bool.{lt-ltb}
 use Rattle.std.proofs.lemmas.Bool.Decides.{Decides-at, Decides-not, Decides-and, Decides-or}
 use Rattle.conditions.specs.Sets.{bit}
@@ -25,7 +25,7 @@ returns-in-Yes g c =
     let b = covers holds c.fill.new.sets in
     record {
       few = (omega arith);
-      written = named_shape N b P Q op _ c.in-Yes.is (λ x w. (λ _. tt, λ _. c.fill.ensures x (in_part x w) ∙ c.all.ensures x.setting ∙ lt-ltb x.setting (2 ^ K) (setting_below N K c.requires.over x w)));
+      written = named_shape N b P Q op _ c.in-Yes.is (λ x w. (λ _. tt, λ _. c.fill.ensures x (in_part x w) ∙ c.all.ensures x.setting ∙ lt-ltb x.setting (2 ^ K) (setting_below N K (g.met.N.Network.over c.args.net.now) x w)));
       counted = named_rounds N P Q op _ 0 c.in-Yes.is refl;
     }
 
@@ -41,7 +41,7 @@ returns-in-Mark g c =
     let b = covers holds c.write_mark.new.part in
     record {
       few = (omega arith);
-      written = named_shape N b P Q op _ c.in-Mark.is (λ x w. Decides-at (b x) (bit (get_or N.marks x.place 0) c.in-Mark.k) (c.write_mark.ensures x (in_part x w) ∙ guard_behind _ _ (lt-ltb x.setting (2 ^ K) (setting_below N K c.requires.over x w))) (λ e. e, λ e. e));
+      written = named_shape N b P Q op _ c.in-Mark.is (λ x w. Decides-at (b x) (bit (get_or N.marks x.place 0) c.in-Mark.k) (c.write_mark.ensures x (in_part x w) ∙ guard_behind _ _ (lt-ltb x.setting (2 ^ K) (setting_below N K (g.met.N.Network.over c.args.net.now) x w))) (λ e. e, λ e. e));
       counted = named_rounds N P Q op _ 0 c.in-Mark.is refl;
     }
 
@@ -57,7 +57,7 @@ returns-in-Condition g c =
     let b = covers holds c.write_condition.new.part in
     record {
       few = (omega arith);
-      written = named_shape N b P Q op _ c.in-Condition.is (λ x w. Decides-at (b x) (bit x.setting c.in-Condition.k) (c.write_condition.ensures x (in_part x w) (setting_below N K c.requires.over x w)) (λ e. e, λ e. e));
+      written = named_shape N b P Q op _ c.in-Condition.is (λ x w. Decides-at (b x) (bit x.setting c.in-Condition.k) (c.write_condition.ensures x (in_part x w) (setting_below N K (g.met.N.Network.over c.args.net.now) x w)) (λ e. e, λ e. e));
       counted = named_rounds N P Q op _ 0 c.in-Condition.is refl;
     }
 
@@ -74,7 +74,7 @@ returns-in-Not g c =
     let p = covers holds c.args.first.now in
     let made : (x : Pos) → Within N x → b x ≡ not (p x) = λ x w.
     c.complement_all.ensures x (let l = w.place_in in omega arith)
-    ∙ guard_true _ _ (lt-ltb x.setting (2 ^ K) (setting_below N K c.requires.over x w))
+    ∙ guard_true _ _ (lt-ltb x.setting (2 ^ K) (setting_below N K (g.met.N.Network.over c.args.net.now) x w))
     ∙ ap (λ (xs : List g.row.N-Set.Denot). not (covers holds xs x)) c.copy_from_slice.ensures.after in
     record {
       few = (omega arith);
@@ -91,11 +91,11 @@ returns-in-And g c =
     let Q : Pos → Type 0 = Is (covers holds c.args.second.now) in
     let op = c.args.op in
     let in_part : (x : Pos) → Within N x → x.place < length c.args.part.now = λ x w. (let l = w.place_in in omega arith) in
-    let b = covers holds c.shrink.new.sets in
+    let b = covers holds c.combine.new.sets in
     let p = covers holds c.args.first.now in
     let q = covers holds c.args.second.now in
     let made : (x : Pos) → Within N x → b x ≡ (p x && q x) = λ x w.
-    c.shrink.ensures.after x (let l = w.place_in in omega arith)
+    c.combine.ensures.after (λ s t u. s && (t || u)) (λ s t u v post a. search rules) x (let l = w.place_in in omega arith)
     ∙ ap (λ t. covers holds c.copy_from_slice-in-And.new.self x && t) (or_same (q x))
     ∙ ap (λ (xs : List g.row.N-Set.Denot). covers holds xs x && q x) c.copy_from_slice-in-And.ensures.after in
     record {
@@ -113,11 +113,11 @@ returns-in-Or g c =
     let Q : Pos → Type 0 = Is (covers holds c.args.second.now) in
     let op = c.args.op in
     let in_part : (x : Pos) → Within N x → x.place < length c.args.part.now = λ x w. (let l = w.place_in in omega arith) in
-    let b = covers holds c.grow.new.sets in
+    let b = covers holds c.combine-in-Or.new.sets in
     let p = covers holds c.args.first.now in
     let q = covers holds c.args.second.now in
     let made : (x : Pos) → Within N x → b x ≡ (p x || q x) = λ x w.
-    c.grow.ensures.after x (let l = w.place_in in omega arith)
+    c.combine-in-Or.ensures.after (λ s t u. s || (t && u)) (λ s t u v post a. search rules) x (let l = w.place_in in omega arith)
     ∙ ap (λ t. covers holds c.copy_from_slice-in-Or.new.self x || t) (and_same (q x))
     ∙ ap (λ (xs : List g.row.N-Set.Denot). covers holds xs x || q x) c.copy_from_slice-in-Or.ensures.after in
     record {

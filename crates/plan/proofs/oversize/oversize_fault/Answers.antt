@@ -1,9 +1,8 @@
-use Rattle.std.proofs.Common.{◌≡◌, ◌+◌, length, arith}
+use Rattle.std.proofs.Common.{◌∙◌, arith}
 use Rattle.plan.proofs.Oversized.{front_tells}
 use Rattle.plan.proofs.oversize.oversize_fault.Goals as goal
 
 pub returns : goal.returns
 returns c =
-    let sum = c.in-Some.ensures in
-    let all : c.in-Some.total ≡ length c.args.front.now + c.args.behind = sum.1 in
-    front_tells c.args.front.now c.args.behind c.in-Some.total c.shape_fault.result (omega arith) (omega arith) (omega arith) (omega arith) all c.shape_fault.ensures
+    front_tells c.args.front.now c.args.behind c.in_ok-total.total c.err.result (omega arith) (omega arith) (omega arith) (omega arith)
+    c.in_ok-total.ensures.1 (c.err.ensures.value ∙ c.check_shape.ensures)

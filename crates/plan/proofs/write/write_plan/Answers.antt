@@ -1,4 +1,5 @@
-use Rattle.std.proofs.Common.{◌≡◌, ℕ, ◌^◌, ◌<◌, true, List, length, refl, ap, ◌∙◌, subst, arith, Bor}
+use Rattle.std.proofs.Common.{◌≡◌, ℕ, ◌^◌, ◌<◌, true, List, length, None, Ok, Err, Option, Result, sym, refl, ap, ◌∙◌, subst, arith, Bor}
+use Rattle.std.specs.Result.{IsErrAnd}
 use Rattle.conditions.specs.declared.word.Word.{Word}
 use Rattle.conditions.specs.WordSets.{word_holds}
 use Rattle.routing.specs.declared.binding.Binding.{Binding}
@@ -6,11 +7,15 @@ use Rattle.routing.specs.Bindings.{linked}
 use Rattle.routing.specs.Refusals.{all_inside}
 use Rattle.routing.specs.Sites.{site_records}
 use Rattle.routing.specs.Fitting.{nth_link, link_inside}
-use Rattle.plan.specs.declared.fault.WriteFault.TheVariants.{TooShort}
+use Rattle.plan.specs.declared.fault.FileFault.{FileFault}
+use Rattle.plan.specs.declared.fault.PlanFault.{PlanFault}
+use Rattle.plan.specs.declared.fault.PlanFault.TheVariants.{InFile, InText}
+use Rattle.plan.specs.declared.fault.WriteFault.{WriteFault}
+use Rattle.plan.specs.declared.fault.WriteFault.TheVariants.{BadPlan}
 use Rattle.output.specs.Put.{Put}
-use Rattle.plan.specs.Format.{Plan, encoded}
+use Rattle.plan.specs.Format.{Plan, encoded, rules_start}
 use Rattle.plan.specs.Reading.{Each, BindingFits}
-use Rattle.plan.specs.Writing.{lent, plan_with, site_plan, WriteRefused}
+use Rattle.plan.specs.Writing.{lent, limits_fault, plan_with, site_plan, texts_fault, BadText, WriteRefused, Writing}
 use Rattle.plan.proofs.Encoded.{length_encoded}
 use Rattle.plan.proofs.Limits.{few_from_none}
 use Rattle.plan.proofs.write.write_plan.Goals as goal
@@ -19,11 +24,38 @@ use Rattle.plan.proofs.write.write_plan.Goals as goal
 same_plan : {m n : List ℕ} {r s : List (Binding Word)} (texts : List (Bor (List ℕ))) → m ≡ n → r ≡ s → plan_with m r texts ≡ plan_with n s texts
 same_plan {n} {r} texts marks records = ap (λ ms. plan_with ms r texts) marks ∙ ap (λ rs. plan_with n rs texts) records
 
+-- A refusal, with the list as it was.
+refused : (p : Plan) (out : List ℕ) (r : Result ℕ WriteFault) (e : WriteFault) → IsErrAnd r (λ x. x ≡ e) → WriteRefused p (length out) e → Writing p out out r
+refused p out (Ok n) e is because = absurd is
+refused p out (Err x) e is because = (subst (WriteRefused p (length out)) (sym is) because, refl)
+
+-- A text that is no rule, where no limit is passed.
+bad_plan : (p : Plan) (room : ℕ) (e : PlanFault) → limits_fault p ≡ None → BadText p.texts e → WriteRefused p room (BadPlan e)
+bad_plan p room (InFile f) none bad = absurd bad
+bad_plan p room (InText i f) none bad = (none, bad)
+
+-- The first limit that is passed, where the lists are those of the site table.
+limits_are : {m n : List ℕ} {r s : List (Binding Word)} (texts : List (Bor (List ℕ))) (start : ℕ) (fault : Option FileFault) → m ≡ n → r ≡ s
+    → start ≡ rules_start (length m) (length r) → fault ≡ texts_fault start (lent texts) → limits_fault (plan_with n s texts) ≡ fault
+limits_are texts start fault marks records at is =
+    sym (is ∙ (ap (λ (b : ℕ). texts_fault b (lent texts)) at ∙ ap limits_fault (same_plan texts marks records)))
+
+pub returns-in_err-length : goal.returns-in_err-length
+returns-in_err-length c =
+    refused (site_plan c.args.site.now c.args.texts.now) c.args.out.now c.from_residual.result _ c.from_residual.ensures.1
+    (limits_are c.args.texts.now c.rules_byte.result _ c.lent_marks-marks.ensures c.lent_records-records.ensures c.rules_byte.ensures c.in_err-length.ensures.fault)
+
+pub returns-in_err-check_texts : goal.returns-in_err-check_texts
+returns-in_err-check_texts c =
+    let none = limits_are c.args.texts.now c.rules_byte.result _ c.lent_marks-marks.ensures c.lent_records-records.ensures c.rules_byte.ensures c.in_ok-length.ensures.fault in
+    refused (site_plan c.args.site.now c.args.texts.now) c.args.out.now c.from_residual-in_err-check_texts.result _ c.from_residual-in_err-check_texts.ensures.1
+    (bad_plan _ (length c.args.out.now) c.in_err-check_texts.field-0.0 none c.in_err-check_texts.ensures)
+
 pub returns-then-out-length : goal.returns-then-out-length
 returns-then-out-length c =
-    let p : Plan = plan_with c.lent_marks-marks.result.now c.lent_records-records.result.now c.args.texts.now in (
-      subst (λ (p : Plan). WriteRefused p (length c.args.out.now) TooShort) (same_plan c.args.texts.now c.lent_marks-marks.ensures c.lent_records-records.ensures)
-          (c.in-Ok.ensures.0, c.in_default.ensures.0, omega (arith, c.in-Ok.ensures.1, length_encoded p)),
+    let p : Plan = site_plan c.args.site.now c.args.texts.now in
+    let none = limits_are c.args.texts.now c.rules_byte.result _ c.lent_marks-marks.ensures c.lent_records-records.ensures c.rules_byte.ensures c.in_ok-length.ensures.fault in (
+      (none, c.in_ok-check_texts.ensures.0, omega (arith, c.in_ok-length.ensures.long, length_encoded p, ap length c.lent_marks-marks.ensures, ap length c.lent_records-records.ensures)),
       refl,
     )
 
@@ -33,9 +65,9 @@ write_file-requires c =
     record {
       few_places = omega (arith, c.args.site.now.few_places, ap length c.lent_marks-marks.ensures);
       few_bindings = omega (arith, c.args.site.now.few_bindings, ap length c.lent_records-records.ensures);
-      few_rules = few_from_none _ p.texts c.in-Ok.ensures.0;
-      rules = c.in_default.ensures.0;
-      fits = omega (arith, c.in-Ok.ensures.1, length_encoded p);
+      few_rules = few_from_none c.rules_byte.result p.texts (sym c.in_ok-length.ensures.fault);
+      rules = c.in_ok-check_texts.ensures.0;
+      fits = omega (arith, c.in_ok-length.ensures.long, length_encoded p);
     }
 
 -- Bindings with their ends inside, and words that fit, fit their fields.
@@ -56,11 +88,11 @@ returns c =
           record {
             few_places = site.few_places;
             few_bindings = site.few_bindings;
-            few_rules = few_from_none _ (lent c.args.texts.now) c.in-Ok.ensures.0;
+            few_rules = few_from_none c.rules_byte.result (lent c.args.texts.now) (sym c.in_ok-length.ensures.fault);
             marks_fit = subst (Each (λ m. m < 2 ^ 32)) c.lent_marks-marks.ensures c.write_file.ensures.marks_fit;
             bindings_fit = bindings_fit _ (site_records site) site.ends (subst (Each (λ b. b.set.0 < 2 ^ 64)) c.lent_records-records.ensures c.write_file.ensures.sets_fit);
-            texts_fit = c.in_default.ensures.1;
-            rules = c.in_default.ensures.0;
+            texts_fit = c.in_ok-check_texts.ensures.1;
+            rules = c.in_ok-check_texts.ensures.0;
           };
       long = omega (arith, put.ends);
       file = put.front;

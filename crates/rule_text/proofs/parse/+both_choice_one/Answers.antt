@@ -1,257 +1,167 @@
-use Rattle.std.proofs.Common.{Some, Err, sym, refl, ap, ◌∙◌, arith, rules}
-use Rattle.std.proofs.lemmas.Bool.Decides.{not_from_Decides}
+use Rattle.std.proofs.Common.{Some, Err, sym, refl, ap, ◌∙◌, arith}
 use Rattle.routing.specs.Rules.{truth, mark, condition}
 use Rattle.rule_text.specs.declared.word.Word.TheVariants.{Yes, Mark, Condition, Before, Routes, And, Or, Open}
 use Rattle.rule_text.specs.Descent.{OneRead, BothRead, ChoiceRead}
 use Rattle.rule_text.proofs.Emitted.{added_yes, added_mark, added_condition, added_prefix, added_until}
-use Rattle.rule_text.proofs.Steps.{onward, cut, stuck, no_starter}
+use Rattle.rule_text.proofs.Steps.{left_with, onward, cut, stuck, no_starter}
 use Rattle.rule_text.proofs.Parts
 use Rattle.rule_text.proofs.parse.+both_choice_one.Goals as goal
 
-pub both-returns-in_err-advance : goal.both-returns-in_err-advance
-both-returns-in_err-advance t c =
-    record {
-      on = (onward c.args.r.now c.loop-r.r c.advance.new.r (onward c.args.r.now c.one.new.r c.loop-r.r c.one.ensures.on c.loop-r.invariant.0) c.advance.ensures.on);
-      reads = Parts.broken (BothRead c.args.levels c.args.r.now c.advance.new.r c.args.t.now c.loop-r.t) c.from_residual-in_err-advance.result c.in_err-advance.field-0.0 c.from_residual-in_err-advance.ensures.1
-          (Parts.both_next_bad c.args.levels c.args.r.now c.one.new.r c.loop-r.r c.args.t.now c.one.new.t c.loop-r.t c.in_ok-left.left c.loop-r.left c.in_ok-left.ensures.reads c.one.ensures.on c.loop-r.invariant.2 c.advance.new.r c.loop-r.t c.in_err-advance.field-0.0 (c.has.ensures.0 c.loop-r-test.true) c.in_err-advance.ensures.step);
-    }
+pub both-returns-in_err-advance-clause-reads : goal.both-returns-in_err-advance-clause-reads
+both-returns-in_err-advance-clause-reads t c =
+    left_with (BothRead c.args.levels c.args.r.now c.advance.new.self c.args.t.now c.loop-r.t) c.from_residual-in_err-advance.result c.in_err-advance.field-0.0 c.from_residual-in_err-advance.ensures.1
+    (Parts.both_next_bad c.args.levels c.args.r.now c.one.new.r c.loop-r.r c.args.t.now c.one.new.t c.loop-r.t c.in_ok-left.left c.loop-r.left c.in_ok-left.ensures.reads c.one.ensures.on c.loop-r.invariant.2 c.advance.new.self c.loop-r.t c.in_err-advance.field-0.0 (c.has.ensures.0 c.loop-r-test.true) c.in_err-advance.ensures.step)
 
-pub both-returns-in_err-right : goal.both-returns-in_err-right
-both-returns-in_err-right t c =
-    record {
-      on = onward c.args.r.now c.advance.new.r c.one-in-loop-r.new.r (onward c.args.r.now c.loop-r.r c.advance.new.r (onward c.args.r.now c.one.new.r c.loop-r.r c.one.ensures.on c.loop-r.invariant.0) c.advance.ensures.on) c.one-in-loop-r.ensures.on;
-      reads = Parts.broken (BothRead c.args.levels c.args.r.now c.one-in-loop-r.new.r c.args.t.now c.one-in-loop-r.new.t) c.from_residual-in_err-right.result c.in_err-right.field-0.0 c.from_residual-in_err-right.ensures.1
-          (Parts.both_part_bad c.args.levels c.args.r.now c.one.new.r c.loop-r.r c.args.t.now c.one.new.t c.loop-r.t c.in_ok-left.left c.loop-r.left c.in_ok-left.ensures.reads c.one.ensures.on c.loop-r.invariant.2 c.advance.new.r c.one-in-loop-r.new.r c.one-in-loop-r.new.r c.one-in-loop-r.new.t c.one-in-loop-r.new.t c.in_err-right.field-0.0 (c.has.ensures.0 c.loop-r-test.true) c.in_ok-advance.ensures.step (onward c.args.r.now c.loop-r.r c.advance.new.r (onward c.args.r.now c.one.new.r c.loop-r.r c.one.ensures.on c.loop-r.invariant.0) c.advance.ensures.on) c.in_err-right.ensures.reads);
-    }
+pub both-returns-in_err-right-clause-reads : goal.both-returns-in_err-right-clause-reads
+both-returns-in_err-right-clause-reads t c =
+    left_with (BothRead c.args.levels c.args.r.now c.one-in-loop-r.new.r c.args.t.now c.one-in-loop-r.new.t) c.from_residual-in_err-right.result c.in_err-right.field-0.0 c.from_residual-in_err-right.ensures.1
+    (Parts.both_part_bad c.args.levels c.args.r.now c.one.new.r c.loop-r.r c.args.t.now c.one.new.t c.loop-r.t c.in_ok-left.left c.loop-r.left c.in_ok-left.ensures.reads c.one.ensures.on c.loop-r.invariant.2 c.advance.new.self c.one-in-loop-r.new.r c.one-in-loop-r.new.r c.one-in-loop-r.new.t c.one-in-loop-r.new.t c.in_err-right.field-0.0 (c.has.ensures.0 c.loop-r-test.true) c.in_ok-advance.ensures.step (onward c.args.r.now c.loop-r.r c.advance.new.self (onward c.args.r.now c.one.new.r c.loop-r.r c.one.ensures.on c.loop-r.invariant.0) c.advance.ensures.on) c.in_err-right.ensures.reads)
 
 pub both-loop-r-preserved : goal.both-loop-r-preserved
 both-loop-r-preserved t c = (
-  onward c.one.new.r c.advance.new.r c.one-in-loop-r.new.r (onward c.one.new.r c.loop-r.r c.advance.new.r c.loop-r.invariant.0 c.advance.ensures.on) c.one-in-loop-r.ensures.on,
-  omega (arith, c.in_ok-right.ensures.reads.2, Parts.later c.loop-r.r c.advance.new.r And (c.has.ensures.0 c.loop-r-test.true) c.in_ok-advance.ensures.step),
-  Parts.joining_more c.args.levels c.one.new.r c.loop-r.r c.advance.new.r c.one-in-loop-r.new.r c.one.new.t c.loop-r.t c.one-in-loop-r.new.t c.emit-left.new.t
+  onward c.one.new.r c.advance.new.self c.one-in-loop-r.new.r (onward c.one.new.r c.loop-r.r c.advance.new.self c.loop-r.invariant.0 c.advance.ensures.on) c.one-in-loop-r.ensures.on,
+  omega (arith, c.in_ok-right.ensures.reads.2, Parts.later c.loop-r.r c.advance.new.self And (c.has.ensures.0 c.loop-r-test.true) c.in_ok-advance.ensures.step),
+  Parts.joining_more c.args.levels c.one.new.r c.loop-r.r c.advance.new.self c.one-in-loop-r.new.r c.one.new.t c.loop-r.t c.one-in-loop-r.new.t c.emit-left.new.t
       c.in_ok-left.left c.loop-r.left c.in_ok-right.right c.emit-left.result
       c.loop-r.invariant.2 c.loop-r.invariant.0 (c.has.ensures.0 c.loop-r-test.true) c.in_ok-advance.ensures.step c.advance.ensures.on c.in_ok-right.ensures.reads
       c.emit-left.ensures.rows c.emit-left.ensures.last,
 )
 
-pub choice-returns-in_err-advance : goal.choice-returns-in_err-advance
-choice-returns-in_err-advance t c =
-    record {
-      on = (onward c.args.r.now c.loop-r.r c.advance.new.r (onward c.args.r.now c.both.new.r c.loop-r.r c.both.ensures.on c.loop-r.invariant.0) c.advance.ensures.on);
-      reads = Parts.broken (ChoiceRead c.args.levels c.args.r.now c.advance.new.r c.args.t.now c.loop-r.t) c.from_residual-in_err-advance.result c.in_err-advance.field-0.0 c.from_residual-in_err-advance.ensures.1
-          (Parts.choice_next_bad c.args.levels c.args.r.now c.both.new.r c.loop-r.r c.args.t.now c.both.new.t c.loop-r.t c.in_ok-left.left c.loop-r.left c.in_ok-left.ensures.reads c.both.ensures.on c.loop-r.invariant.3 c.advance.new.r c.loop-r.t c.in_err-advance.field-0.0 (c.has.ensures.0 c.loop-r-test.true) c.in_err-advance.ensures.step);
-    }
+pub choice-returns-in_err-advance-clause-reads : goal.choice-returns-in_err-advance-clause-reads
+choice-returns-in_err-advance-clause-reads t c =
+    left_with (ChoiceRead c.args.levels c.args.r.now c.advance.new.self c.args.t.now c.loop-r.t) c.from_residual-in_err-advance.result c.in_err-advance.field-0.0 c.from_residual-in_err-advance.ensures.1
+    (Parts.choice_next_bad c.args.levels c.args.r.now c.both.new.r c.loop-r.r c.args.t.now c.both.new.t c.loop-r.t c.in_ok-left.left c.loop-r.left c.in_ok-left.ensures.reads c.both.ensures.on c.loop-r.invariant.3 c.advance.new.self c.loop-r.t c.in_err-advance.field-0.0 (c.has.ensures.0 c.loop-r-test.true) c.in_err-advance.ensures.step)
 
-pub choice-returns-in_err-right : goal.choice-returns-in_err-right
-choice-returns-in_err-right t c =
-    record {
-      on = onward c.args.r.now c.advance.new.r c.both-in-loop-r.new.r (onward c.args.r.now c.loop-r.r c.advance.new.r (onward c.args.r.now c.both.new.r c.loop-r.r c.both.ensures.on c.loop-r.invariant.0) c.advance.ensures.on) c.both-in-loop-r.ensures.on;
-      reads = Parts.broken (ChoiceRead c.args.levels c.args.r.now c.both-in-loop-r.new.r c.args.t.now c.both-in-loop-r.new.t) c.from_residual-in_err-right.result c.in_err-right.field-0.0 c.from_residual-in_err-right.ensures.1
-          (Parts.choice_part_bad c.args.levels c.args.r.now c.both.new.r c.loop-r.r c.args.t.now c.both.new.t c.loop-r.t c.in_ok-left.left c.loop-r.left c.in_ok-left.ensures.reads c.both.ensures.on c.loop-r.invariant.3 c.advance.new.r c.both-in-loop-r.new.r c.both-in-loop-r.new.r c.both-in-loop-r.new.t c.both-in-loop-r.new.t c.in_err-right.field-0.0 (c.has.ensures.0 c.loop-r-test.true) c.in_ok-advance.ensures.step (onward c.args.r.now c.loop-r.r c.advance.new.r (onward c.args.r.now c.both.new.r c.loop-r.r c.both.ensures.on c.loop-r.invariant.0) c.advance.ensures.on) c.in_err-right.ensures.reads);
-    }
+pub choice-returns-in_err-right-clause-reads : goal.choice-returns-in_err-right-clause-reads
+choice-returns-in_err-right-clause-reads t c =
+    left_with (ChoiceRead c.args.levels c.args.r.now c.both-in-loop-r.new.r c.args.t.now c.both-in-loop-r.new.t) c.from_residual-in_err-right.result c.in_err-right.field-0.0 c.from_residual-in_err-right.ensures.1
+    (Parts.choice_part_bad c.args.levels c.args.r.now c.both.new.r c.loop-r.r c.args.t.now c.both.new.t c.loop-r.t c.in_ok-left.left c.loop-r.left c.in_ok-left.ensures.reads c.both.ensures.on c.loop-r.invariant.3 c.advance.new.self c.both-in-loop-r.new.r c.both-in-loop-r.new.r c.both-in-loop-r.new.t c.both-in-loop-r.new.t c.in_err-right.field-0.0 (c.has.ensures.0 c.loop-r-test.true) c.in_ok-advance.ensures.step (onward c.args.r.now c.loop-r.r c.advance.new.self (onward c.args.r.now c.both.new.r c.loop-r.r c.both.ensures.on c.loop-r.invariant.0) c.advance.ensures.on) c.in_err-right.ensures.reads)
 
 pub choice-loop-r-preserved : goal.choice-loop-r-preserved
 choice-loop-r-preserved t c = (
-  onward c.both.new.r c.advance.new.r c.both-in-loop-r.new.r (onward c.both.new.r c.loop-r.r c.advance.new.r c.loop-r.invariant.0 c.advance.ensures.on) c.both-in-loop-r.ensures.on,
-  omega (arith, c.in_ok-right.ensures.reads.2, Parts.later c.loop-r.r c.advance.new.r Or (c.has.ensures.0 c.loop-r-test.true) c.in_ok-advance.ensures.step),
+  onward c.both.new.r c.advance.new.self c.both-in-loop-r.new.r (onward c.both.new.r c.loop-r.r c.advance.new.self c.loop-r.invariant.0 c.advance.ensures.on) c.both-in-loop-r.ensures.on,
+  omega (arith, c.in_ok-right.ensures.reads.2, Parts.later c.loop-r.r c.advance.new.self Or (c.has.ensures.0 c.loop-r-test.true) c.in_ok-advance.ensures.step),
   c.in_ok-right.ensures.reads.3,
-  Parts.choosing_more c.args.levels c.both.new.r c.loop-r.r c.advance.new.r c.both-in-loop-r.new.r c.both.new.t c.loop-r.t c.both-in-loop-r.new.t c.emit-left.new.t
+  Parts.choosing_more c.args.levels c.both.new.r c.loop-r.r c.advance.new.self c.both-in-loop-r.new.r c.both.new.t c.loop-r.t c.both-in-loop-r.new.t c.emit-left.new.t
       c.in_ok-left.left c.loop-r.left c.in_ok-right.right c.emit-left.result
       c.loop-r.invariant.3 c.loop-r.invariant.0 (c.has.ensures.0 c.loop-r-test.true) c.in_ok-advance.ensures.step c.advance.ensures.on c.in_ok-right.ensures.reads
       c.emit-left.ensures.rows c.emit-left.ensures.last,
 )
 
-pub choice-returns : goal.choice-returns
-choice-returns t c =
-    record {
-      on = (onward c.args.r.now c.both.new.r c.loop-r.r c.both.ensures.on c.loop-r.invariant.0);
-      reads = Parts.choice_done c.args.levels c.args.r.now c.both.new.r c.loop-r.r c.args.t.now c.both.new.t c.loop-r.t c.in_ok-left.left c.loop-r.left c.in_ok-left.ensures.reads c.both.ensures.on c.loop-r.invariant.3 c.loop-r.invariant.1 c.loop-r.invariant.2 (not_from_Decides c.has.result c.has.ensures c.loop-r-test.false);
-    }
+pub choice-returns-clause-reads : goal.choice-returns-clause-reads
+choice-returns-clause-reads t c =
+    Parts.choice_done c.args.levels c.args.r.now c.both.new.r c.loop-r.r c.args.t.now c.both.new.t c.loop-r.t c.in_ok-left.left c.loop-r.left c.in_ok-left.ensures.reads c.both.ensures.on c.loop-r.invariant.3 c.loop-r.invariant.1 c.loop-r.invariant.2 (λ e. cc (c.has.ensures.1 e))
 
-pub one-returns-in_err-enter-in-Yes : goal.one-returns-in_err-enter-in-Yes
-one-returns-in_err-enter-in-Yes t c =
-    record {
-      on = c.enter.ensures.on;
-      reads = Parts.broken (OneRead c.args.levels c.args.r.now c.enter.new.r c.args.t.now c.args.t.now) c.from_residual.result c.in_err-enter-in-Yes.field-0.0 c.from_residual.ensures.1
-          (Parts.one_not_entered c.args.levels c.args.r.now c.enter.new.r c.enter.new.r c.args.t.now c.args.t.now Yes c.in_err-enter-in-Yes.field-0.0 (c.in-Some.is ∙ ap Some c.in-Yes.is) refl c.in_err-enter-in-Yes.ensures.enters (λ xs o l K. (_, refl)));
-    }
+pub one-returns-in_err-enter-in-Yes-clause-reads : goal.one-returns-in_err-enter-in-Yes-clause-reads
+one-returns-in_err-enter-in-Yes-clause-reads t c =
+    left_with (OneRead c.args.levels c.args.r.now c.enter.new.self c.args.t.now c.args.t.now) c.from_residual.result c.in_err-enter-in-Yes.field-0.0 c.from_residual.ensures.1
+    (Parts.one_not_entered c.args.levels c.args.r.now c.enter.new.self c.enter.new.self c.args.t.now c.args.t.now Yes c.in_err-enter-in-Yes.field-0.0 (c.in-Some.is ∙ ap Some c.in-Yes.is) refl c.in_err-enter-in-Yes.ensures.enters (λ xs o l K. (_, refl)))
 
-pub one-returns-in_err-enter-in-Mark : goal.one-returns-in_err-enter-in-Mark
-one-returns-in_err-enter-in-Mark t c =
-    record {
-      on = c.enter-in-Mark.ensures.on;
-      reads = Parts.broken (OneRead c.args.levels c.args.r.now c.enter-in-Mark.new.r c.args.t.now c.args.t.now) c.from_residual-in_err-enter-in-Mark.result c.in_err-enter-in-Mark.field-0.0 c.from_residual-in_err-enter-in-Mark.ensures.1
-          (Parts.one_not_entered c.args.levels c.args.r.now c.enter-in-Mark.new.r c.enter-in-Mark.new.r c.args.t.now c.args.t.now (Mark c.in-Mark.k) c.in_err-enter-in-Mark.field-0.0 (c.in-Some.is ∙ ap Some c.in-Mark.is) refl c.in_err-enter-in-Mark.ensures.enters (λ xs o l K. (_, refl)));
-    }
+pub one-returns-in_err-enter-in-Mark-clause-reads : goal.one-returns-in_err-enter-in-Mark-clause-reads
+one-returns-in_err-enter-in-Mark-clause-reads t c =
+    left_with (OneRead c.args.levels c.args.r.now c.enter-in-Mark.new.self c.args.t.now c.args.t.now) c.from_residual-in_err-enter-in-Mark.result c.in_err-enter-in-Mark.field-0.0 c.from_residual-in_err-enter-in-Mark.ensures.1
+    (Parts.one_not_entered c.args.levels c.args.r.now c.enter-in-Mark.new.self c.enter-in-Mark.new.self c.args.t.now c.args.t.now (Mark c.in-Mark.k) c.in_err-enter-in-Mark.field-0.0 (c.in-Some.is ∙ ap Some c.in-Mark.is) refl c.in_err-enter-in-Mark.ensures.enters (λ xs o l K. (_, refl)))
 
-pub one-returns-in_err-enter-in-Condition : goal.one-returns-in_err-enter-in-Condition
-one-returns-in_err-enter-in-Condition t c =
-    record {
-      on = c.enter-in-Condition.ensures.on;
-      reads = Parts.broken (OneRead c.args.levels c.args.r.now c.enter-in-Condition.new.r c.args.t.now c.args.t.now) c.from_residual-in_err-enter-in-Condition.result c.in_err-enter-in-Condition.field-0.0 c.from_residual-in_err-enter-in-Condition.ensures.1
-          (Parts.one_not_entered c.args.levels c.args.r.now c.enter-in-Condition.new.r c.enter-in-Condition.new.r c.args.t.now c.args.t.now (Condition c.in-Condition.k) c.in_err-enter-in-Condition.field-0.0 (c.in-Some.is ∙ ap Some c.in-Condition.is) refl c.in_err-enter-in-Condition.ensures.enters (λ xs o l K. (_, refl)));
-    }
+pub one-returns-in_err-enter-in-Condition-clause-reads : goal.one-returns-in_err-enter-in-Condition-clause-reads
+one-returns-in_err-enter-in-Condition-clause-reads t c =
+    left_with (OneRead c.args.levels c.args.r.now c.enter-in-Condition.new.self c.args.t.now c.args.t.now) c.from_residual-in_err-enter-in-Condition.result c.in_err-enter-in-Condition.field-0.0 c.from_residual-in_err-enter-in-Condition.ensures.1
+    (Parts.one_not_entered c.args.levels c.args.r.now c.enter-in-Condition.new.self c.enter-in-Condition.new.self c.args.t.now c.args.t.now (Condition c.in-Condition.k) c.in_err-enter-in-Condition.field-0.0 (c.in-Some.is ∙ ap Some c.in-Condition.is) refl c.in_err-enter-in-Condition.ensures.enters (λ xs o l K. (_, refl)))
 
-pub one-returns-in_err-enter-in-Before : goal.one-returns-in_err-enter-in-Before
-one-returns-in_err-enter-in-Before t c =
-    record {
-      on = c.enter-in-Before.ensures.on;
-      reads = Parts.broken (OneRead c.args.levels c.args.r.now c.enter-in-Before.new.r c.args.t.now c.args.t.now) c.from_residual-in_err-enter-in-Before.result c.in_err-enter-in-Before.field-0.0 c.from_residual-in_err-enter-in-Before.ensures.1
-          (Parts.one_not_entered c.args.levels c.args.r.now c.enter-in-Before.new.r c.enter-in-Before.new.r c.args.t.now c.args.t.now (Before c.in-Before.prefix) c.in_err-enter-in-Before.field-0.0 (c.in-Some.is ∙ ap Some c.in-Before.is) refl c.in_err-enter-in-Before.ensures.enters (λ xs o l K. (_, refl)));
-    }
+pub one-returns-in_err-enter-in-Before-clause-reads : goal.one-returns-in_err-enter-in-Before-clause-reads
+one-returns-in_err-enter-in-Before-clause-reads t c =
+    left_with (OneRead c.args.levels c.args.r.now c.enter-in-Before.new.self c.args.t.now c.args.t.now) c.from_residual-in_err-enter-in-Before.result c.in_err-enter-in-Before.field-0.0 c.from_residual-in_err-enter-in-Before.ensures.1
+    (Parts.one_not_entered c.args.levels c.args.r.now c.enter-in-Before.new.self c.enter-in-Before.new.self c.args.t.now c.args.t.now (Before c.in-Before.prefix) c.in_err-enter-in-Before.field-0.0 (c.in-Some.is ∙ ap Some c.in-Before.is) refl c.in_err-enter-in-Before.ensures.enters (λ xs o l K. (_, refl)))
 
-pub one-returns-in_err-enter-in-Open : goal.one-returns-in_err-enter-in-Open
-one-returns-in_err-enter-in-Open t c =
-    record {
-      on = c.enter-in-Open.ensures.on;
-      reads = Parts.broken (OneRead c.args.levels c.args.r.now c.enter-in-Open.new.r c.args.t.now c.args.t.now) c.from_residual-in_err-enter-in-Open.result c.in_err-enter-in-Open.field-0.0 c.from_residual-in_err-enter-in-Open.ensures.1
-          (Parts.one_not_entered c.args.levels c.args.r.now c.enter-in-Open.new.r c.enter-in-Open.new.r c.args.t.now c.args.t.now Open c.in_err-enter-in-Open.field-0.0 (c.in-Some.is ∙ ap Some c.in-Open.is) refl c.in_err-enter-in-Open.ensures.enters (λ xs o l K. (_, refl)));
-    }
+pub one-returns-in_err-enter-in-Open-clause-reads : goal.one-returns-in_err-enter-in-Open-clause-reads
+one-returns-in_err-enter-in-Open-clause-reads t c =
+    left_with (OneRead c.args.levels c.args.r.now c.enter-in-Open.new.self c.args.t.now c.args.t.now) c.from_residual-in_err-enter-in-Open.result c.in_err-enter-in-Open.field-0.0 c.from_residual-in_err-enter-in-Open.ensures.1
+    (Parts.one_not_entered c.args.levels c.args.r.now c.enter-in-Open.new.self c.enter-in-Open.new.self c.args.t.now c.args.t.now Open c.in_err-enter-in-Open.field-0.0 (c.in-Some.is ∙ ap Some c.in-Open.is) refl c.in_err-enter-in-Open.ensures.enters (λ xs o l K. (_, refl)))
 
-pub one-returns-in_err-enter-in-Routes : goal.one-returns-in_err-enter-in-Routes
-one-returns-in_err-enter-in-Routes t c =
-    record {
-      on = c.enter-in-Routes.ensures.on;
-      reads = Parts.broken (OneRead c.args.levels c.args.r.now c.enter-in-Routes.new.r c.args.t.now c.args.t.now) c.from_residual-in_err-enter-in-Routes.result c.in_err-enter-in-Routes.field-0.0 c.from_residual-in_err-enter-in-Routes.ensures.1
-          (Parts.one_not_entered c.args.levels c.args.r.now c.enter-in-Routes.new.r c.enter-in-Routes.new.r c.args.t.now c.args.t.now (Routes c.in-Routes.quantifier) c.in_err-enter-in-Routes.field-0.0 (c.in-Some.is ∙ ap Some c.in-Routes.is) refl c.in_err-enter-in-Routes.ensures.enters (λ xs o l K. (_, refl)));
-    }
+pub one-returns-in_err-enter-in-Routes-clause-reads : goal.one-returns-in_err-enter-in-Routes-clause-reads
+one-returns-in_err-enter-in-Routes-clause-reads t c =
+    left_with (OneRead c.args.levels c.args.r.now c.enter-in-Routes.new.self c.args.t.now c.args.t.now) c.from_residual-in_err-enter-in-Routes.result c.in_err-enter-in-Routes.field-0.0 c.from_residual-in_err-enter-in-Routes.ensures.1
+    (Parts.one_not_entered c.args.levels c.args.r.now c.enter-in-Routes.new.self c.enter-in-Routes.new.self c.args.t.now c.args.t.now (Routes c.in-Routes.quantifier) c.in_err-enter-in-Routes.field-0.0 (c.in-Some.is ∙ ap Some c.in-Routes.is) refl c.in_err-enter-in-Routes.ensures.enters (λ xs o l K. (_, refl)))
 
-pub one-returns-in_ok-enter-in-Yes : goal.one-returns-in_ok-enter-in-Yes
-one-returns-in_ok-enter-in-Yes t c =
-    record {
-      on = c.enter.ensures.on;
-      reads = Parts.one_word c.args.levels c.args.r.now c.enter.new.r c.args.t.now c.emit.new.t c.emit.result Yes truth (c.in-Some.is ∙ ap Some c.in-Yes.is) c.in_ok-enter-in-Yes.ensures.enters
-          (added_yes c.args.t.now c.emit.new.t c.emit.result c.emit.ensures.rows c.emit.ensures.last) (λ xs o l K. refl);
-    }
+pub one-returns-in_ok-enter-in-Yes-clause-reads : goal.one-returns-in_ok-enter-in-Yes-clause-reads
+one-returns-in_ok-enter-in-Yes-clause-reads t c =
+    Parts.one_word c.args.levels c.args.r.now c.enter.new.self c.args.t.now c.emit.new.t c.emit.result Yes truth (c.in-Some.is ∙ ap Some c.in-Yes.is) c.in_ok-enter-in-Yes.ensures.enters
+    (added_yes c.args.t.now c.emit.new.t c.emit.result c.emit.ensures.rows c.emit.ensures.last) (λ xs o l K. refl)
 
-pub one-returns-in_ok-enter-in-Mark : goal.one-returns-in_ok-enter-in-Mark
-one-returns-in_ok-enter-in-Mark t c =
-    record {
-      on = c.enter-in-Mark.ensures.on;
-      reads = Parts.one_word c.args.levels c.args.r.now c.enter-in-Mark.new.r c.args.t.now c.emit-in-Mark.new.t c.emit-in-Mark.result (Mark c.in-Mark.k) (mark c.in-Mark.k) (c.in-Some.is ∙ ap Some c.in-Mark.is) c.in_ok-enter-in-Mark.ensures.enters
-          (added_mark c.args.t.now c.emit-in-Mark.new.t c.in-Mark.k c.emit-in-Mark.result c.emit-in-Mark.ensures.rows c.emit-in-Mark.ensures.last) (λ xs o l K. refl);
-    }
+pub one-returns-in_ok-enter-in-Mark-clause-reads : goal.one-returns-in_ok-enter-in-Mark-clause-reads
+one-returns-in_ok-enter-in-Mark-clause-reads t c =
+    Parts.one_word c.args.levels c.args.r.now c.enter-in-Mark.new.self c.args.t.now c.emit-in-Mark.new.t c.emit-in-Mark.result (Mark c.in-Mark.k) (mark c.in-Mark.k) (c.in-Some.is ∙ ap Some c.in-Mark.is) c.in_ok-enter-in-Mark.ensures.enters
+    (added_mark c.args.t.now c.emit-in-Mark.new.t c.in-Mark.k c.emit-in-Mark.result c.emit-in-Mark.ensures.rows c.emit-in-Mark.ensures.last) (λ xs o l K. refl)
 
-pub one-returns-in_ok-enter-in-Condition : goal.one-returns-in_ok-enter-in-Condition
-one-returns-in_ok-enter-in-Condition t c =
-    record {
-      on = c.enter-in-Condition.ensures.on;
-      reads = Parts.one_word c.args.levels c.args.r.now c.enter-in-Condition.new.r c.args.t.now c.emit-in-Condition.new.t c.emit-in-Condition.result (Condition c.in-Condition.k) (condition c.in-Condition.k) (c.in-Some.is ∙ ap Some c.in-Condition.is) c.in_ok-enter-in-Condition.ensures.enters
-          (added_condition c.args.t.now c.emit-in-Condition.new.t c.in-Condition.k c.emit-in-Condition.result c.emit-in-Condition.ensures.rows c.emit-in-Condition.ensures.last) (λ xs o l K. refl);
-    }
+pub one-returns-in_ok-enter-in-Condition-clause-reads : goal.one-returns-in_ok-enter-in-Condition-clause-reads
+one-returns-in_ok-enter-in-Condition-clause-reads t c =
+    Parts.one_word c.args.levels c.args.r.now c.enter-in-Condition.new.self c.args.t.now c.emit-in-Condition.new.t c.emit-in-Condition.result (Condition c.in-Condition.k) (condition c.in-Condition.k) (c.in-Some.is ∙ ap Some c.in-Condition.is) c.in_ok-enter-in-Condition.ensures.enters
+    (added_condition c.args.t.now c.emit-in-Condition.new.t c.in-Condition.k c.emit-in-Condition.result c.emit-in-Condition.ensures.rows c.emit-in-Condition.ensures.last) (λ xs o l K. refl)
 
-pub one-returns-in_ok-part-in-Before : goal.one-returns-in_ok-part-in-Before
-one-returns-in_ok-part-in-Before t c =
-    record {
-      on = onward c.args.r.now c.enter-in-Before.new.r c.one.new.r c.enter-in-Before.ensures.on c.one.ensures.on;
-      reads = Parts.one_prefix c.in-Before.prefix c.args.levels c.args.r.now c.enter-in-Before.new.r c.one.new.r c.args.t.now c.open_prefix.new.t c.one.new.t c.close_prefix.new.t c.in_ok-part-in-Before.part c.close_prefix.result
-          (c.in-Some.is ∙ ap Some c.in-Before.is) c.in_ok-enter-in-Before.ensures.enters c.enter-in-Before.ensures.on c.in_ok-part-in-Before.ensures.reads
-          (λ p ad. added_prefix c.in-Before.prefix c.args.t.now c.open_prefix.new.t c.one.new.t c.close_prefix.new.t p c.args.t.now.len c.in_ok-part-in-Before.part c.close_prefix.result
-          c.open_prefix.ensures ad refl c.close_prefix.ensures.rows c.close_prefix.ensures.last);
-    }
+pub one-returns-in_ok-part-in-Before-clause-reads : goal.one-returns-in_ok-part-in-Before-clause-reads
+one-returns-in_ok-part-in-Before-clause-reads t c =
+    Parts.one_prefix c.in-Before.prefix c.args.levels c.args.r.now c.enter-in-Before.new.self c.one.new.r c.args.t.now c.open_prefix-first.new.t c.one.new.t c.close_prefix.new.t c.in_ok-part-in-Before.part c.close_prefix.result
+    (c.in-Some.is ∙ ap Some c.in-Before.is) c.in_ok-enter-in-Before.ensures.enters c.enter-in-Before.ensures.on c.in_ok-part-in-Before.ensures.reads
+    (λ p ad. added_prefix c.in-Before.prefix c.args.t.now c.open_prefix-first.new.t c.one.new.t c.close_prefix.new.t p c.open_prefix-first.result c.in_ok-part-in-Before.part c.close_prefix.result
+    c.open_prefix-first.ensures.rows c.open_prefix-first.ensures.last ad c.close_prefix.ensures.rows c.close_prefix.ensures.last)
 
-pub one-returns-in_err-part-in-Before : goal.one-returns-in_err-part-in-Before
-one-returns-in_err-part-in-Before t c =
-    record {
-      on = onward c.args.r.now c.enter-in-Before.new.r c.one.new.r c.enter-in-Before.ensures.on c.one.ensures.on;
-      reads = Parts.broken (OneRead c.args.levels c.args.r.now c.one.new.r c.args.t.now c.one.new.t) c.from_residual-in_err-part-in-Before.result c.in_err-part-in-Before.field-0.0 c.from_residual-in_err-part-in-Before.ensures.1
-          (Parts.one_prefix_not c.in-Before.prefix c.args.levels c.args.r.now c.enter-in-Before.new.r c.one.new.r c.one.new.r c.args.t.now c.open_prefix.new.t c.one.new.t c.one.new.t c.in_err-part-in-Before.field-0.0 (c.in-Some.is ∙ ap Some c.in-Before.is) c.in_ok-enter-in-Before.ensures.enters c.enter-in-Before.ensures.on c.in_err-part-in-Before.ensures.reads);
-    }
+pub one-returns-in_err-part-in-Before-clause-reads : goal.one-returns-in_err-part-in-Before-clause-reads
+one-returns-in_err-part-in-Before-clause-reads t c =
+    left_with (OneRead c.args.levels c.args.r.now c.one.new.r c.args.t.now c.one.new.t) c.from_residual-in_err-part-in-Before.result c.in_err-part-in-Before.field-0.0 c.from_residual-in_err-part-in-Before.ensures.1
+    (Parts.one_prefix_not c.in-Before.prefix c.args.levels c.args.r.now c.enter-in-Before.new.self c.one.new.r c.one.new.r c.args.t.now c.open_prefix-first.new.t c.one.new.t c.one.new.t c.in_err-part-in-Before.field-0.0 (c.in-Some.is ∙ ap Some c.in-Before.is) c.in_ok-enter-in-Before.ensures.enters c.enter-in-Before.ensures.on c.in_err-part-in-Before.ensures.reads)
 
-pub one-returns-in_err-whole-in-Open : goal.one-returns-in_err-whole-in-Open
-one-returns-in_err-whole-in-Open t c =
-    record {
-      on = (onward c.args.r.now c.enter-in-Open.new.r c.choice.new.r c.enter-in-Open.ensures.on c.choice.ensures.on);
-      reads = Parts.broken (OneRead c.args.levels c.args.r.now c.choice.new.r c.args.t.now c.choice.new.t) c.from_residual-in_err-whole-in-Open.result c.in_err-whole-in-Open.field-0.0 c.from_residual-in_err-whole-in-Open.ensures.1
-          (Parts.one_bracket_not c.args.levels c.args.r.now c.enter-in-Open.new.r (c.in-Some.is ∙ ap Some c.in-Open.is) c.in_ok-enter-in-Open.ensures.enters c.enter-in-Open.ensures.on c.choice.new.r c.choice.new.r c.args.t.now c.choice.new.t c.args.t.now c.choice.new.t c.in_err-whole-in-Open.field-0.0 c.in_err-whole-in-Open.ensures.reads);
-    }
+pub one-returns-in_err-whole-in-Open-clause-reads : goal.one-returns-in_err-whole-in-Open-clause-reads
+one-returns-in_err-whole-in-Open-clause-reads t c =
+    left_with (OneRead c.args.levels c.args.r.now c.choice.new.r c.args.t.now c.choice.new.t) c.from_residual-in_err-whole-in-Open.result c.in_err-whole-in-Open.field-0.0 c.from_residual-in_err-whole-in-Open.ensures.1
+    (Parts.one_bracket_not c.args.levels c.args.r.now c.enter-in-Open.new.self (c.in-Some.is ∙ ap Some c.in-Open.is) c.in_ok-enter-in-Open.ensures.enters c.enter-in-Open.ensures.on c.choice.new.r c.choice.new.r c.args.t.now c.choice.new.t c.args.t.now c.choice.new.t c.in_err-whole-in-Open.field-0.0 c.in_err-whole-in-Open.ensures.reads)
 
-pub one-returns-in_err-take-in-Open : goal.one-returns-in_err-take-in-Open
-one-returns-in_err-take-in-Open t c =
-    record {
-      on = (onward c.args.r.now c.choice.new.r c.take.new.r (onward c.args.r.now c.enter-in-Open.new.r c.choice.new.r c.enter-in-Open.ensures.on c.choice.ensures.on) c.take.ensures.on);
-      reads = Parts.broken (OneRead c.args.levels c.args.r.now c.take.new.r c.args.t.now c.choice.new.t) c.from_residual-in_err-take-in-Open.result c.in_err-take-in-Open.field-0.0 c.from_residual-in_err-take-in-Open.ensures.1
-          (Parts.one_bracket_open c.args.levels c.args.r.now c.enter-in-Open.new.r (c.in-Some.is ∙ ap Some c.in-Open.is) c.in_ok-enter-in-Open.ensures.enters c.enter-in-Open.ensures.on c.choice.new.r c.take.new.r c.args.t.now c.choice.new.t c.args.t.now c.choice.new.t c.in_ok-whole-in-Open.whole c.in_err-take-in-Open.field-0.0 c.in_ok-whole-in-Open.ensures.reads c.choice.ensures.on c.in_err-take-in-Open.ensures.takes);
-    }
+pub one-returns-in_err-take-in-Open-clause-reads : goal.one-returns-in_err-take-in-Open-clause-reads
+one-returns-in_err-take-in-Open-clause-reads t c =
+    left_with (OneRead c.args.levels c.args.r.now c.take.new.self c.args.t.now c.choice.new.t) c.from_residual-in_err-take-in-Open.result c.in_err-take-in-Open.field-0.0 c.from_residual-in_err-take-in-Open.ensures.1
+    (Parts.one_bracket_open c.args.levels c.args.r.now c.enter-in-Open.new.self (c.in-Some.is ∙ ap Some c.in-Open.is) c.in_ok-enter-in-Open.ensures.enters c.enter-in-Open.ensures.on c.choice.new.r c.take.new.self c.args.t.now c.choice.new.t c.args.t.now c.choice.new.t c.in_ok-whole-in-Open.whole c.in_err-take-in-Open.field-0.0 c.in_ok-whole-in-Open.ensures.reads c.choice.ensures.on c.in_err-take-in-Open.ensures.takes)
 
-pub one-returns-in_ok-take-in-Open : goal.one-returns-in_ok-take-in-Open
-one-returns-in_ok-take-in-Open t c =
-    record {
-      on = (onward c.args.r.now c.choice.new.r c.take.new.r (onward c.args.r.now c.enter-in-Open.new.r c.choice.new.r c.enter-in-Open.ensures.on c.choice.ensures.on) c.take.ensures.on);
-      reads = Parts.one_bracket c.args.levels c.args.r.now c.enter-in-Open.new.r (c.in-Some.is ∙ ap Some c.in-Open.is) c.in_ok-enter-in-Open.ensures.enters c.enter-in-Open.ensures.on c.choice.new.r c.take.new.r c.args.t.now c.choice.new.t c.in_ok-whole-in-Open.whole c.in_ok-whole-in-Open.ensures.reads c.choice.ensures.on c.in_ok-take-in-Open.ensures.takes;
-    }
+pub one-returns-in_ok-take-in-Open-clause-reads : goal.one-returns-in_ok-take-in-Open-clause-reads
+one-returns-in_ok-take-in-Open-clause-reads t c =
+    Parts.one_bracket c.args.levels c.args.r.now c.enter-in-Open.new.self (c.in-Some.is ∙ ap Some c.in-Open.is) c.in_ok-enter-in-Open.ensures.enters c.enter-in-Open.ensures.on c.choice.new.r c.take.new.self c.args.t.now c.choice.new.t c.in_ok-whole-in-Open.whole c.in_ok-whole-in-Open.ensures.reads c.choice.ensures.on c.in_ok-take-in-Open.ensures.takes
 
-pub one-returns-in_err-take-in-Routes : goal.one-returns-in_err-take-in-Routes
-one-returns-in_err-take-in-Routes t c =
-    record {
-      on = (onward c.args.r.now c.enter-in-Routes.new.r c.take-in-Routes.new.r c.enter-in-Routes.ensures.on c.take-in-Routes.ensures.on);
-      reads = Parts.broken (OneRead c.args.levels c.args.r.now c.take-in-Routes.new.r c.args.t.now c.args.t.now) c.from_residual-in_err-take-in-Routes.result c.in_err-take-in-Routes.field-0.0 c.from_residual-in_err-take-in-Routes.ensures.1
-          (Parts.one_until_square c.in-Routes.quantifier c.args.levels c.args.r.now c.enter-in-Routes.new.r (c.in-Some.is ∙ ap Some c.in-Routes.is) c.in_ok-enter-in-Routes.ensures.enters c.enter-in-Routes.ensures.on c.take-in-Routes.new.r c.args.t.now c.args.t.now c.in_err-take-in-Routes.field-0.0 c.in_err-take-in-Routes.ensures.takes);
-    }
+pub one-returns-in_err-take-in-Routes-clause-reads : goal.one-returns-in_err-take-in-Routes-clause-reads
+one-returns-in_err-take-in-Routes-clause-reads t c =
+    left_with (OneRead c.args.levels c.args.r.now c.take-in-Routes.new.self c.args.t.now c.args.t.now) c.from_residual-in_err-take-in-Routes.result c.in_err-take-in-Routes.field-0.0 c.from_residual-in_err-take-in-Routes.ensures.1
+    (Parts.one_until_square c.in-Routes.quantifier c.args.levels c.args.r.now c.enter-in-Routes.new.self (c.in-Some.is ∙ ap Some c.in-Routes.is) c.in_ok-enter-in-Routes.ensures.enters c.enter-in-Routes.ensures.on c.take-in-Routes.new.self c.args.t.now c.args.t.now c.in_err-take-in-Routes.field-0.0 c.in_err-take-in-Routes.ensures.takes)
 
-pub one-returns-in_err-p-in-Routes : goal.one-returns-in_err-p-in-Routes
-one-returns-in_err-p-in-Routes t c =
-    record {
-      on = (onward c.args.r.now c.take-in-Routes.new.r c.choice-in-Routes.new.r (onward c.args.r.now c.enter-in-Routes.new.r c.take-in-Routes.new.r c.enter-in-Routes.ensures.on c.take-in-Routes.ensures.on) c.choice-in-Routes.ensures.on);
-      reads = Parts.broken (OneRead c.args.levels c.args.r.now c.choice-in-Routes.new.r c.args.t.now c.choice-in-Routes.new.t) c.from_residual-in_err-p-in-Routes.result c.in_err-p-in-Routes.field-0.0 c.from_residual-in_err-p-in-Routes.ensures.1
-          (Parts.one_until_first_not c.in-Routes.quantifier c.args.levels c.args.r.now c.enter-in-Routes.new.r (c.in-Some.is ∙ ap Some c.in-Routes.is) c.in_ok-enter-in-Routes.ensures.enters c.enter-in-Routes.ensures.on c.take-in-Routes.new.r c.in_ok-take-in-Routes.ensures.takes c.take-in-Routes.ensures.on c.choice-in-Routes.new.r c.choice-in-Routes.new.r c.args.t.now c.choice-in-Routes.new.t c.args.t.now c.choice-in-Routes.new.t c.in_err-p-in-Routes.field-0.0 c.in_err-p-in-Routes.ensures.reads);
-    }
+pub one-returns-in_err-p-in-Routes-clause-reads : goal.one-returns-in_err-p-in-Routes-clause-reads
+one-returns-in_err-p-in-Routes-clause-reads t c =
+    left_with (OneRead c.args.levels c.args.r.now c.choice-in-Routes.new.r c.args.t.now c.choice-in-Routes.new.t) c.from_residual-in_err-p-in-Routes.result c.in_err-p-in-Routes.field-0.0 c.from_residual-in_err-p-in-Routes.ensures.1
+    (Parts.one_until_first_not c.in-Routes.quantifier c.args.levels c.args.r.now c.enter-in-Routes.new.self (c.in-Some.is ∙ ap Some c.in-Routes.is) c.in_ok-enter-in-Routes.ensures.enters c.enter-in-Routes.ensures.on c.take-in-Routes.new.self c.in_ok-take-in-Routes.ensures.takes c.take-in-Routes.ensures.on c.choice-in-Routes.new.r c.choice-in-Routes.new.r c.args.t.now c.choice-in-Routes.new.t c.args.t.now c.choice-in-Routes.new.t c.in_err-p-in-Routes.field-0.0 c.in_err-p-in-Routes.ensures.reads)
 
-pub one-returns-in_err-take-in-Routes-2 : goal.one-returns-in_err-take-in-Routes-2
-one-returns-in_err-take-in-Routes-2 t c =
-    record {
-      on = (onward c.args.r.now c.choice-in-Routes.new.r c.take-in-Routes-2.new.r (onward c.args.r.now c.take-in-Routes.new.r c.choice-in-Routes.new.r (onward c.args.r.now c.enter-in-Routes.new.r c.take-in-Routes.new.r c.enter-in-Routes.ensures.on c.take-in-Routes.ensures.on) c.choice-in-Routes.ensures.on) c.take-in-Routes-2.ensures.on);
-      reads = Parts.broken (OneRead c.args.levels c.args.r.now c.take-in-Routes-2.new.r c.args.t.now c.choice-in-Routes.new.t) c.from_residual-in_err-take-in-Routes-2.result c.in_err-take-in-Routes-2.field-0.0 c.from_residual-in_err-take-in-Routes-2.ensures.1
-          (Parts.one_until_missing c.in-Routes.quantifier c.args.levels c.args.r.now c.enter-in-Routes.new.r (c.in-Some.is ∙ ap Some c.in-Routes.is) c.in_ok-enter-in-Routes.ensures.enters c.enter-in-Routes.ensures.on c.take-in-Routes.new.r c.in_ok-take-in-Routes.ensures.takes c.take-in-Routes.ensures.on c.choice-in-Routes.new.r c.args.t.now c.choice-in-Routes.new.t c.in_ok-p-in-Routes.p c.in_ok-p-in-Routes.ensures.reads c.choice-in-Routes.ensures.on c.take-in-Routes-2.new.r c.args.t.now c.choice-in-Routes.new.t c.in_err-take-in-Routes-2.field-0.0 c.in_err-take-in-Routes-2.ensures.takes);
-    }
+pub one-returns-in_err-take-in-Routes-2-clause-reads : goal.one-returns-in_err-take-in-Routes-2-clause-reads
+one-returns-in_err-take-in-Routes-2-clause-reads t c =
+    left_with (OneRead c.args.levels c.args.r.now c.take-in-Routes-2.new.self c.args.t.now c.choice-in-Routes.new.t) c.from_residual-in_err-take-in-Routes-2.result c.in_err-take-in-Routes-2.field-0.0 c.from_residual-in_err-take-in-Routes-2.ensures.1
+    (Parts.one_until_missing c.in-Routes.quantifier c.args.levels c.args.r.now c.enter-in-Routes.new.self (c.in-Some.is ∙ ap Some c.in-Routes.is) c.in_ok-enter-in-Routes.ensures.enters c.enter-in-Routes.ensures.on c.take-in-Routes.new.self c.in_ok-take-in-Routes.ensures.takes c.take-in-Routes.ensures.on c.choice-in-Routes.new.r c.args.t.now c.choice-in-Routes.new.t c.in_ok-p-in-Routes.p c.in_ok-p-in-Routes.ensures.reads c.choice-in-Routes.ensures.on c.take-in-Routes-2.new.self c.args.t.now c.choice-in-Routes.new.t c.in_err-take-in-Routes-2.field-0.0 c.in_err-take-in-Routes-2.ensures.takes)
 
-pub one-returns-in_err-q-in-Routes : goal.one-returns-in_err-q-in-Routes
-one-returns-in_err-q-in-Routes t c =
-    record {
-      on = (onward c.args.r.now c.take-in-Routes-2.new.r c.choice-in-Routes-2.new.r (onward c.args.r.now c.choice-in-Routes.new.r c.take-in-Routes-2.new.r (onward c.args.r.now c.take-in-Routes.new.r c.choice-in-Routes.new.r (onward c.args.r.now c.enter-in-Routes.new.r c.take-in-Routes.new.r c.enter-in-Routes.ensures.on c.take-in-Routes.ensures.on) c.choice-in-Routes.ensures.on) c.take-in-Routes-2.ensures.on) c.choice-in-Routes-2.ensures.on);
-      reads = Parts.broken (OneRead c.args.levels c.args.r.now c.choice-in-Routes-2.new.r c.args.t.now c.choice-in-Routes-2.new.t) c.from_residual-in_err-q-in-Routes.result c.in_err-q-in-Routes.field-0.0 c.from_residual-in_err-q-in-Routes.ensures.1
-          (Parts.one_until_second_not c.in-Routes.quantifier c.args.levels c.args.r.now c.enter-in-Routes.new.r (c.in-Some.is ∙ ap Some c.in-Routes.is) c.in_ok-enter-in-Routes.ensures.enters c.enter-in-Routes.ensures.on c.take-in-Routes.new.r c.in_ok-take-in-Routes.ensures.takes c.take-in-Routes.ensures.on c.choice-in-Routes.new.r c.args.t.now c.choice-in-Routes.new.t c.in_ok-p-in-Routes.p c.in_ok-p-in-Routes.ensures.reads c.choice-in-Routes.ensures.on c.take-in-Routes-2.new.r c.in_ok-take-in-Routes-2.ensures.takes c.take-in-Routes-2.ensures.on c.choice-in-Routes-2.new.r c.choice-in-Routes-2.new.r c.choice-in-Routes.new.t c.choice-in-Routes-2.new.t c.args.t.now c.choice-in-Routes-2.new.t c.in_err-q-in-Routes.field-0.0 c.in_err-q-in-Routes.ensures.reads);
-    }
+pub one-returns-in_err-q-in-Routes-clause-reads : goal.one-returns-in_err-q-in-Routes-clause-reads
+one-returns-in_err-q-in-Routes-clause-reads t c =
+    left_with (OneRead c.args.levels c.args.r.now c.choice-in-Routes-2.new.r c.args.t.now c.choice-in-Routes-2.new.t) c.from_residual-in_err-q-in-Routes.result c.in_err-q-in-Routes.field-0.0 c.from_residual-in_err-q-in-Routes.ensures.1
+    (Parts.one_until_second_not c.in-Routes.quantifier c.args.levels c.args.r.now c.enter-in-Routes.new.self (c.in-Some.is ∙ ap Some c.in-Routes.is) c.in_ok-enter-in-Routes.ensures.enters c.enter-in-Routes.ensures.on c.take-in-Routes.new.self c.in_ok-take-in-Routes.ensures.takes c.take-in-Routes.ensures.on c.choice-in-Routes.new.r c.args.t.now c.choice-in-Routes.new.t c.in_ok-p-in-Routes.p c.in_ok-p-in-Routes.ensures.reads c.choice-in-Routes.ensures.on c.take-in-Routes-2.new.self c.in_ok-take-in-Routes-2.ensures.takes c.take-in-Routes-2.ensures.on c.choice-in-Routes-2.new.r c.choice-in-Routes-2.new.r c.choice-in-Routes.new.t c.choice-in-Routes-2.new.t c.args.t.now c.choice-in-Routes-2.new.t c.in_err-q-in-Routes.field-0.0 c.in_err-q-in-Routes.ensures.reads)
 
-pub one-returns-in_err-take-in-Routes-3 : goal.one-returns-in_err-take-in-Routes-3
-one-returns-in_err-take-in-Routes-3 t c =
-    record {
-      on = (onward c.args.r.now c.choice-in-Routes-2.new.r c.take-in-Routes-3.new.r (onward c.args.r.now c.take-in-Routes-2.new.r c.choice-in-Routes-2.new.r (onward c.args.r.now c.choice-in-Routes.new.r c.take-in-Routes-2.new.r (onward c.args.r.now c.take-in-Routes.new.r c.choice-in-Routes.new.r (onward c.args.r.now c.enter-in-Routes.new.r c.take-in-Routes.new.r c.enter-in-Routes.ensures.on c.take-in-Routes.ensures.on) c.choice-in-Routes.ensures.on) c.take-in-Routes-2.ensures.on) c.choice-in-Routes-2.ensures.on) c.take-in-Routes-3.ensures.on);
-      reads = Parts.broken (OneRead c.args.levels c.args.r.now c.take-in-Routes-3.new.r c.args.t.now c.choice-in-Routes-2.new.t) c.from_residual-in_err-take-in-Routes-3.result c.in_err-take-in-Routes-3.field-0.0 c.from_residual-in_err-take-in-Routes-3.ensures.1
-          (Parts.one_until_open c.in-Routes.quantifier c.args.levels c.args.r.now c.enter-in-Routes.new.r (c.in-Some.is ∙ ap Some c.in-Routes.is) c.in_ok-enter-in-Routes.ensures.enters c.enter-in-Routes.ensures.on c.take-in-Routes.new.r c.in_ok-take-in-Routes.ensures.takes c.take-in-Routes.ensures.on c.choice-in-Routes.new.r c.args.t.now c.choice-in-Routes.new.t c.in_ok-p-in-Routes.p c.in_ok-p-in-Routes.ensures.reads c.choice-in-Routes.ensures.on c.take-in-Routes-2.new.r c.in_ok-take-in-Routes-2.ensures.takes c.take-in-Routes-2.ensures.on c.choice-in-Routes-2.new.r c.choice-in-Routes-2.new.t c.in_ok-q-in-Routes.q c.in_ok-q-in-Routes.ensures.reads c.choice-in-Routes-2.ensures.on c.take-in-Routes-3.new.r c.args.t.now c.choice-in-Routes-2.new.t c.in_err-take-in-Routes-3.field-0.0 c.in_err-take-in-Routes-3.ensures.takes);
-    }
+pub one-returns-in_err-take-in-Routes-3-clause-reads : goal.one-returns-in_err-take-in-Routes-3-clause-reads
+one-returns-in_err-take-in-Routes-3-clause-reads t c =
+    left_with (OneRead c.args.levels c.args.r.now c.take-in-Routes-3.new.self c.args.t.now c.choice-in-Routes-2.new.t) c.from_residual-in_err-take-in-Routes-3.result c.in_err-take-in-Routes-3.field-0.0 c.from_residual-in_err-take-in-Routes-3.ensures.1
+    (Parts.one_until_open c.in-Routes.quantifier c.args.levels c.args.r.now c.enter-in-Routes.new.self (c.in-Some.is ∙ ap Some c.in-Routes.is) c.in_ok-enter-in-Routes.ensures.enters c.enter-in-Routes.ensures.on c.take-in-Routes.new.self c.in_ok-take-in-Routes.ensures.takes c.take-in-Routes.ensures.on c.choice-in-Routes.new.r c.args.t.now c.choice-in-Routes.new.t c.in_ok-p-in-Routes.p c.in_ok-p-in-Routes.ensures.reads c.choice-in-Routes.ensures.on c.take-in-Routes-2.new.self c.in_ok-take-in-Routes-2.ensures.takes c.take-in-Routes-2.ensures.on c.choice-in-Routes-2.new.r c.choice-in-Routes-2.new.t c.in_ok-q-in-Routes.q c.in_ok-q-in-Routes.ensures.reads c.choice-in-Routes-2.ensures.on c.take-in-Routes-3.new.self c.args.t.now c.choice-in-Routes-2.new.t c.in_err-take-in-Routes-3.field-0.0 c.in_err-take-in-Routes-3.ensures.takes)
 
-pub one-returns-in_ok-take-in-Routes-3 : goal.one-returns-in_ok-take-in-Routes-3
-one-returns-in_ok-take-in-Routes-3 t c =
+pub one-returns-in_ok-take-in-Routes-3-clause-reads : goal.one-returns-in_ok-take-in-Routes-3-clause-reads
+one-returns-in_ok-take-in-Routes-3-clause-reads t c =
     let first = c.in_ok-p-in-Routes.ensures.reads in
     let second = c.in_ok-q-in-Routes.ensures.reads in
-    record {
-      on = (onward c.args.r.now c.choice-in-Routes-2.new.r c.take-in-Routes-3.new.r (onward c.args.r.now c.take-in-Routes-2.new.r c.choice-in-Routes-2.new.r (onward c.args.r.now c.choice-in-Routes.new.r c.take-in-Routes-2.new.r (onward c.args.r.now c.take-in-Routes.new.r c.choice-in-Routes.new.r (onward c.args.r.now c.enter-in-Routes.new.r c.take-in-Routes.new.r c.enter-in-Routes.ensures.on c.take-in-Routes.ensures.on) c.choice-in-Routes.ensures.on) c.take-in-Routes-2.ensures.on) c.choice-in-Routes-2.ensures.on) c.take-in-Routes-3.ensures.on);
-      reads = Parts.one_until c.in-Routes.quantifier c.args.levels c.args.r.now c.enter-in-Routes.new.r (c.in-Some.is ∙ ap Some c.in-Routes.is) c.in_ok-enter-in-Routes.ensures.enters c.enter-in-Routes.ensures.on c.take-in-Routes.new.r c.in_ok-take-in-Routes.ensures.takes c.take-in-Routes.ensures.on c.choice-in-Routes.new.r c.args.t.now c.choice-in-Routes.new.t c.in_ok-p-in-Routes.p c.in_ok-p-in-Routes.ensures.reads c.choice-in-Routes.ensures.on c.take-in-Routes-2.new.r c.in_ok-take-in-Routes-2.ensures.takes c.take-in-Routes-2.ensures.on c.choice-in-Routes-2.new.r c.choice-in-Routes-2.new.t c.in_ok-q-in-Routes.q c.in_ok-q-in-Routes.ensures.reads c.choice-in-Routes-2.ensures.on c.take-in-Routes-3.new.r c.close_until.new.t c.close_until.result c.in_ok-take-in-Routes-3.ensures.takes
-          (added_until c.in-Routes.quantifier c.args.t.now c.choice-in-Routes.new.t c.choice-in-Routes-2.new.t c.close_until.new.t _ _ c.in_ok-p-in-Routes.p c.in_ok-q-in-Routes.q c.close_until.result
-          first.2 second.2 c.close_until.ensures.rows c.close_until.ensures.last);
-    }
+    Parts.one_until c.in-Routes.quantifier c.args.levels c.args.r.now c.enter-in-Routes.new.self (c.in-Some.is ∙ ap Some c.in-Routes.is) c.in_ok-enter-in-Routes.ensures.enters c.enter-in-Routes.ensures.on c.take-in-Routes.new.self c.in_ok-take-in-Routes.ensures.takes c.take-in-Routes.ensures.on c.choice-in-Routes.new.r c.args.t.now c.choice-in-Routes.new.t c.in_ok-p-in-Routes.p c.in_ok-p-in-Routes.ensures.reads c.choice-in-Routes.ensures.on c.take-in-Routes-2.new.self c.in_ok-take-in-Routes-2.ensures.takes c.take-in-Routes-2.ensures.on c.choice-in-Routes-2.new.r c.choice-in-Routes-2.new.t c.in_ok-q-in-Routes.q c.in_ok-q-in-Routes.ensures.reads c.choice-in-Routes-2.ensures.on c.take-in-Routes-3.new.self c.close_until.new.t c.close_until.result c.in_ok-take-in-Routes-3.ensures.takes
+    (added_until c.in-Routes.quantifier c.args.t.now c.choice-in-Routes.new.t c.choice-in-Routes-2.new.t c.close_until.new.t _ _ c.in_ok-p-in-Routes.p c.in_ok-q-in-Routes.q c.close_until.result
+    first.2 second.2 c.close_until.ensures.rows c.close_until.ensures.last)
 
-pub one-returns-in_default : goal.one-returns-in_default
-one-returns-in_default t c =
-    record {
-      on = search rules;
-      reads = λ xs o l K d. cut c.args.r.now _ c.in_default.is refl ∙ ap Err (sym c.unfit.ensures);
-    }
+pub one-returns-in_default-clause-reads : goal.one-returns-in_default-clause-reads
+one-returns-in_default-clause-reads t c =
+    λ xs o l K d. cut c.args.r.now _ c.in_default.is refl ∙ ap Err (sym c.unfit.ensures)
 
-pub one-returns-in_default-word : goal.one-returns-in_default-word
-one-returns-in_default-word t c =
-    record {
-      on = search rules;
-      reads = λ xs o l K d. stuck _ c.args.r.now c.in-Some.word _ c.in-Some.is
-          (no_starter c.in-Some.word xs o l K c.in_default-word.not-Yes c.in_default-word.not-Mark c.in_default-word.not-Condition c.in_default-word.not-Before c.in_default-word.not-Routes c.in_default-word.not-Open)
-          ∙ ap Err (sym c.unfit-in_default-word.ensures);
-    }
-
-pub both-returns : goal.both-returns
-both-returns t c =
-    record {
-      on = onward c.args.r.now c.one.new.r c.loop-r.r c.one.ensures.on c.loop-r.invariant.0;
-      reads = Parts.both_done c.args.levels c.args.r.now c.one.new.r c.loop-r.r c.args.t.now c.one.new.t c.loop-r.t c.in_ok-left.left c.loop-r.left c.in_ok-left.ensures.reads c.one.ensures.on
-          c.loop-r.invariant.2 c.loop-r.invariant.1 (not_from_Decides c.has.result c.has.ensures c.loop-r-test.false);
-    }
+pub one-returns-in_default-word-clause-reads : goal.one-returns-in_default-word-clause-reads
+one-returns-in_default-word-clause-reads t c =
+    λ xs o l K d. stuck _ c.args.r.now c.in-Some.word _ c.in-Some.is
+    (no_starter c.in-Some.word xs o l K c.in_default-word.not-Yes c.in_default-word.not-Mark c.in_default-word.not-Condition c.in_default-word.not-Before c.in_default-word.not-Routes c.in_default-word.not-Open)
+    ∙ ap Err (sym c.unfit-in_default-word.ensures)

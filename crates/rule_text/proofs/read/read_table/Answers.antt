@@ -1,6 +1,7 @@
-use Rattle.std.proofs.Common.{length, Err, sym, refl, ap, ◌∙◌, subst, arith}
+use Rattle.std.proofs.Common.{length, Some, Err, sym, ap, ◌∙◌, subst, arith}
 use Rattle.rule_text.specs.Reading.{Reading, Answer, too_long}
-use Rattle.rule_text.proofs.Answered.{choice_bad, first_bad, left_with, more_words, no_word, some_word, table_read, too_many}
+use Rattle.rule_text.proofs.Answered.{choice_bad, first_bad, more_words, no_word, some_word, table_answered}
+use Rattle.rule_text.proofs.Steps.{left_with}
 use Rattle.rule_text.proofs.read.read_table.Goals as goal
 
 pub returns-then-text-gt-MOST_BYTES : goal.returns-then-text-gt-MOST_BYTES
@@ -15,20 +16,18 @@ returns-in_err-advance c =
 pub returns-in_err-choice : goal.returns-in_err-choice
 returns-in_err-choice c =
     left_with (Answer c.args.conditions c.args.text.now) c.from_residual-in_err-choice.result c.in_err-choice.field-0.0 c.from_residual-in_err-choice.ensures.1
-    (choice_bad c.args.conditions c.args.text.now (omega arith) c.advance.new.r c.choice.new.r c.choice.new.t c.choice.new.t 0 c.in_ok-advance.ensures.step.reads (ap (λ x. length x.now) c.advance.ensures.on.text_same) (ap (λ x. length x.now) (c.choice.ensures.on.text_same ∙ c.advance.ensures.on.text_same)) c.in_err-choice.field-0.0 c.in_err-choice.ensures.reads)
+    (choice_bad c.args.conditions c.args.text.now (omega arith) c.advance.new.self c.choice.new.r c.choice.new.t c.choice.new.t 0 c.in_ok-advance.ensures.step.reads (ap (λ x. length x.now) c.advance.ensures.on.text_same) (ap (λ x. length x.now) (c.choice.ensures.on.text_same ∙ c.advance.ensures.on.text_same)) c.in_err-choice.field-0.0 c.in_err-choice.ensures.reads)
 
 pub returns-then-is_some : goal.returns-then-is_some
 returns-then-is_some c =
     let word = some_word c.choice.new.r.word (sym c.if-is_some.ensures) in
     subst (λ e. Reading c.args.conditions c.args.text.now (Err e)) (sym c.unfit.ensures)
-    (more_words c.args.conditions c.args.text.now (omega arith) c.advance.new.r c.choice.new.r _ c.choice.new.t c.in_ok-choice.field-0 c.in_ok-advance.ensures.step.reads (ap (λ x. length x.now) c.advance.ensures.on.text_same) (ap (λ x. length x.now) (c.choice.ensures.on.text_same ∙ c.advance.ensures.on.text_same)) c.in_ok-choice.ensures.reads word.0 word.1)
-
-pub returns-then-t : goal.returns-then-t
-returns-then-t c =
-    too_many c.args.conditions c.args.text.now (omega arith) c.advance.new.r c.choice.new.r _ c.choice.new.t c.in_ok-choice.field-0 c.in_ok-advance.ensures.step.reads (ap (λ x. length x.now) c.advance.ensures.on.text_same) (ap (λ x. length x.now) (c.choice.ensures.on.text_same ∙ c.advance.ensures.on.text_same)) c.in_ok-choice.ensures.reads refl refl
-    (no_word c.choice.new.r.word (sym c.if-is_some.ensures)) c.if-t.true
+    (more_words c.args.conditions c.args.text.now (omega arith) c.advance.new.self c.choice.new.r _ c.choice.new.t c.in_ok-choice.field-0 c.in_ok-advance.ensures.step.reads (ap (λ x. length x.now) c.advance.ensures.on.text_same) (ap (λ x. length x.now) (c.choice.ensures.on.text_same ∙ c.advance.ensures.on.text_same)) c.in_ok-choice.ensures.reads word.0 word.1)
 
 pub returns : goal.returns
 returns c =
-    table_read c.args.conditions c.args.text.now (omega arith) c.advance.new.r c.choice.new.r _ c.choice.new.t c.in_ok-choice.field-0 c.in_ok-advance.ensures.step.reads (ap (λ x. length x.now) c.advance.ensures.on.text_same) (ap (λ x. length x.now) (c.choice.ensures.on.text_same ∙ c.advance.ensures.on.text_same)) c.in_ok-choice.ensures.reads refl refl
-    (no_word c.choice.new.r.word (sym c.if-is_some.ensures)) c.if-t.false
+    subst (Answer c.args.conditions c.args.text.now) (sym c.ok_or.ensures.value)
+    (table_answered c.args.conditions c.args.text.now (omega arith) c.advance.new.self c.choice.new.r (Some c.new.result) c.choice.new.t c.in_ok-choice.field-0
+    c.in_ok-advance.ensures.step.reads (ap (λ x. length x.now) c.advance.ensures.on.text_same)
+    (ap (λ x. length x.now) (c.choice.ensures.on.text_same ∙ c.advance.ensures.on.text_same)) c.in_ok-choice.ensures.reads
+    (ap Some c.new.ensures) (no_word c.choice.new.r.word (sym c.if-is_some.ensures)))

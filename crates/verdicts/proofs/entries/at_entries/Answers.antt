@@ -7,7 +7,7 @@ use Rattle.judging.proofs.Covers.{covers_read, covers_at}
 use Rattle.judging.proofs.Rows.{guard_true, setting_below}
 use Rattle.verdicts.specs.Verdicts.{Entry}
 use Rattle.verdicts.proofs.entries.at_entries.Goals as goal
-use Rattle.verdicts.proofs.entries.at_entries.Goals.{then-is_entry+in_default, else-is_entry}
+use Rattle.verdicts.proofs.entries.at_entries.Goals.{then-has_mark+in_default, else-has_mark}
 
 -- What the complement of a set has.
 outside : (K : ℕ) (held failing covered : ℕ → Bool) → ((a : ℕ) → failing a ≡ (ltb a (2 ^ K) && not (held a))) → ((a : ℕ) → covered a ≡ held a)
@@ -29,12 +29,12 @@ returns-in-Some g c =
     let at : ℕ → Pos = λ b. record { place = s; setting = b } in
     let P : ℕ → Type 0 = λ b. (b < settings N) × (¬ (covers holds part (at b) ≡ true)) in
     let likeness : (a : ℕ) → (holds c.complement-failing.result a ≡ true) ↔ P a =
-    λ a. subst (λ (k : ℕ). (holds c.complement-failing.result a ≡ true) ↔ ((a < 2 ^ k) × (¬ (covers holds part (at a) ≡ true)))) (sym c.requires.over)
+    λ a. subst (λ (k : ℕ). (holds c.complement-failing.result a ≡ true) ↔ ((a < 2 ^ k) × (¬ (covers holds part (at a) ≡ true)))) (sym (g.met.N.Network.over c.args.net.now))
     (outside g.N.Set.ConditionSet.count (holds held) (holds c.complement-failing.result) (λ b. covers holds part (at b)) c.complement-failing.ensures
     (λ b. covers_read holds part (at b) held c.loop-place-test.true c.index-part-place.is) a) in
     record {
       inside = omega arith;
-      entry = sym c.is_entry.ensures ∙ c.if-is_entry.true;
+      entry = sym c.has_mark.ensures ∙ c.if-has_mark.true;
       earlier = c.loop-place.invariant;
       picked = picked_like (λ a. holds c.complement-failing.result a ≡ true) P c.in-Some.setting likeness c.in-Some.ensures;
     }
@@ -47,13 +47,13 @@ loop-place-preserved g c = λ x w below entry.
     let part = c.args.part.now in
     let s = c.loop-place.place in
     ⊎_elim
-    (λ e. elim c.if-is_entry.branch [
-      | then-is_entry+in_default v ↦
-          let held = v.index-part-place.result in
-          let inside : ltb x.setting (2 ^ K) ≡ true = lt-ltb x.setting (2 ^ K) (setting_below N K c.requires.over x w) in
-          covers_at holds part x s held e c.loop-place-test.true v.index-part-place.is
+    (λ e. elim c.if-has_mark.branch [
+      | then-has_mark+in_default v ↦
+          let held = c.index-part-place.result in
+          let inside : ltb x.setting (2 ^ K) ≡ true = lt-ltb x.setting (2 ^ K) (setting_below N K (g.met.N.Network.over c.args.net.now) x w) in
+          covers_at holds part x s held e c.loop-place-test.true c.index-part-place.is
           ∙ not-false (holds held x.setting) (sym (guard_true _ (not (holds held x.setting)) inside) ∙ sym (v.complement-failing.ensures x.setting) ∙ v.in_default.ensures x.setting)
-      | else-is_entry v ↦ absurd (false≢true (sym v.if-is_entry.false ∙ c.is_entry.ensures ∙ subst (Entry N) e entry))
+      | else-has_mark v ↦ absurd (false≢true (sym v.if-has_mark.false ∙ c.has_mark.ensures ∙ subst (Entry N) e entry))
     ])
     (λ ne. c.loop-place.invariant x w (omega arith) entry)
     (cases_eq x.place s)

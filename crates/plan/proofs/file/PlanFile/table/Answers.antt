@@ -1,19 +1,21 @@
-use Rattle.std.proofs.Common.{◌≡◌, ℕ, ◌<◌, List, Ok, Err, Result, sym, subst, arith}
+use Rattle.std.proofs.Common.{◌≡◌, ℕ, ◌<◌, ◌≤◌, List, length, Ok, Err, Result, sym, subst, arith}
 use mathlib.Core.Logic.{∥∥₁_elim}
+use Rattle.std.specs.Option.{MatchOption}
 use Rattle.routing.specs.Rules.{Rule}
 use Rattle.rule_text.specs.declared.fault.Fault.{Fault}
 use Rattle.rule_text.specs.Reading.{Reading}
 use Rattle.rule_text.proofs.Once.{reading_once}
 use Rattle.plan.specs.Contents.{listed, rule_count, text_at}
+use Rattle.plan.specs.Files.{file_plan, TableOf}
 use Rattle.plan.specs.Reading.{TextsRead}
 use Rattle.plan.proofs.Listed.{listed_at, past_end}
 use Rattle.plan.proofs.file.PlanFile.table.Goals as goal
 
-pub returns-in_default : goal.returns-in_default
-returns-in_default c =
-    let file = c.args.self.now.bytes.now in
-    let past = past_end (listed (rule_count file) (text_at file)) _ (sym c.in_default.ensures) in
-    omega arith
+pub returns-in_err-text : goal.returns-in_err-text
+returns-in_err-text c =
+    let texts = listed (rule_count c.args.self.now.file.bytes.now) (text_at c.args.self.now.file.bytes.now) in
+    let past : length texts ≤ c.args.rule = past_end texts _ (sym c.in_err-text.ensures) in
+    subst (λ o. MatchOption o (length texts ≤ c.args.rule) (TableOf (file_plan c.args.self.now) c.args.rule)) (sym c.from_residual.ensures) past
 
 -- A text that is a rule is not refused.
 never : (file text : List ℕ) (i : ℕ) (e : Fault) → i < rule_count file → text_at file i ≡ text → TextsRead file → Reading 6 text (Err e) → ⊥
@@ -26,7 +28,7 @@ never file text i e below same reads refused =
 
 pub unreachable-requires : goal.unreachable-requires
 unreachable-requires c =
-    let file = c.args.self.now.bytes.now in
-    let at = listed_at (rule_count file) (text_at file) _ c.in-Some.text.now (sym c.in-Some.ensures) in
+    let file = c.args.self.now.file.bytes.now in
+    let at = listed_at (rule_count file) (text_at file) _ c.in_ok-text.text.now (sym c.in_ok-text.ensures) in
     ∥∥₁_elim c.args.self.now.read (λ a b. absurd a)
-    (λ reads. never file c.in-Some.text.now _ c.in-Err.field-0 at.0 at.1 reads c.in-Err.ensures.answer)
+    (λ reads. never file c.in_ok-text.text.now _ c.in-Err.field-0 at.0 at.1 reads c.in-Err.ensures.answer)

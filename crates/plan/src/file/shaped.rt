@@ -1,0 +1,86 @@
+// A file whose shape is right: what lies outside the texts of its rules has no fault.
+ghost use Rattle.std.specs.Prelude.{◌≡◌, ◌≤◌, true, length, Some, None, MatchResult};
+ghost use Rattle.std.specs.List.{slice_get};
+ghost use Rattle.std.specs.Option.{option_map};
+ghost use Rattle.routing.specs.Refusals.{all_inside};
+ghost use Rattle.plan.specs.Contents.{place_count, binding_at, binding_count, listed, rule_byte, rule_count, text_at};
+ghost use Rattle.plan.specs.Format.{rules_start};
+ghost use Rattle.plan.specs.Reading.{Refused, TextsRead};
+ghost use Rattle.plan.specs.Shape.{shape_fault};
+
+use crate::fault::{FileFault, PlanFault};
+use crate::fields::{text_of, u16_at};
+use crate::layout::{BINDING_COUNT, PLACE_COUNT, RULE_COUNT};
+use crate::shape::{check_shape, rules_byte};
+use conditions::word::Word;
+use rule_text::read::read_rule;
+
+// The bytes that the caller lends, and their counts.
+#[derive(Clone, Copy)]
+pub(crate) struct ShapedFile<'a> {
+    pub(crate) bytes: &'a [u8],
+    pub(crate) places: usize,
+    pub(crate) bindings: usize,
+    pub(crate) rules: usize,
+    ghost shaped: { shape_fault (length bytes.now) bytes.now ≡ None },
+    ghost places_are: { places ≡ place_count bytes.now },
+    ghost bindings_are: { bindings ≡ binding_count bytes.now },
+    ghost rules_are: { rules ≡ rule_count bytes.now },
+    ghost few_places: { places ≤ 256 },
+    ghost few_bindings: { bindings ≤ 4096 },
+    ghost room: { rules_start places bindings ≤ length bytes.now },
+    ghost ends: { all_inside (place_count bytes.now) (listed (binding_count bytes.now) (binding_at bytes.now)) ≡ true },
+}
+
+impl<'a> ShapedFile<'a> {
+    pub(crate) fn open(bytes: &'a [u8]) -> Result<ShapedFile<'a>, FileFault>
+        ensures { MatchResult result (λ f. f.bytes.now ≡ bytes.now)
+            (λ e. shape_fault (length bytes.now) bytes.now ≡ Some e) }
+    {
+        check_shape(bytes, bytes.len())?;
+        Ok(ShapedFile {
+            bytes,
+            places: usize::from(u16_at(bytes, PLACE_COUNT)),
+            bindings: usize::from(u16_at(bytes, BINDING_COUNT)),
+            rules: usize::from(u16_at(bytes, RULE_COUNT)),
+        })
+    }
+
+    // The byte where a rule begins.
+    fn rule_byte(&self, rule: usize) -> usize
+        requires { rule ≤ rule_count self.now.bytes.now }
+        ensures { result ≡ rule_byte self.now.bytes.now rule }
+    {
+        let mut byte = rules_byte(self.places, self.bindings);
+        for earlier in 0..rule {
+            byte += 2 + usize::from(u16_at(self.bytes, byte));
+        }
+        byte
+    }
+
+    // The text of a rule; absent beyond the last rule.
+    pub(crate) fn text(&self, rule: usize) -> Option<&'a [u8]>
+        ensures { option_map (λ t. t.now) result
+            ≡ slice_get (listed (rule_count self.now.bytes.now) (text_at self.now.bytes.now)) rule }
+    {
+        if rule >= self.rules {
+            return None;
+        }
+        Some(text_of(self.bytes, self.rule_byte(rule)))
+    }
+
+    // Tests that the texts are rules.
+    pub(crate) fn check_texts(&self) -> Result<(), PlanFault>
+        ensures { MatchResult result (λ _. TextsRead self.now.bytes.now) (λ e. Refused self.now.bytes.now e) }
+    {
+        let mut byte = rules_byte(self.places, self.bindings);
+        for rule in 0..self.rules {
+            let text = text_of(self.bytes, byte);
+            if let Err(fault) = read_rule::<Word>(text) {
+                return Err(PlanFault::InText(rule, fault));
+            }
+            byte += 2 + text.len();
+        }
+        Ok(())
+    }
+}
