@@ -1,31 +1,30 @@
-// Which rows of a rule's table a route is shown of, where the rule breaks.
-use crate::phrase::{last_row, operation};
-use tables::row::{Operation, Row};
+// Which parts of a rule a route is shown of, where the rule breaks.
+use crate::part::Part;
+use tables::row::Operation;
 
 #[derive(Clone, Copy)]
-pub(crate) enum Breaking {
-    // No single route shows why the rule breaks.
-    NoRow,
-    // A step of this row does.
-    OfStep(u8),
-    // A route of this row does.
-    Of(u8),
-    // A route of the first row does, or where there is none one of the second.
-    OfEither(u8, u8),
+pub(crate) enum Breaking<'a> {
+    // A step of this part shows why the rule breaks.
+    Step(Part<'a>),
+    // A route of this part does.
+    Route(Part<'a>),
+    // A route of the first part does, or where there is none one of the second.
+    Either(Part<'a>, Part<'a>),
 }
 
-// A rule about every step or route is "not p", and a route of p breaks it; p is an `or` of two such rows in A[p U q].
-pub(crate) fn breaking_rows(rows: &[Row]) -> Breaking {
-    let Some(Operation::Not(p)) = operation(rows, last_row(rows)) else {
-        return Breaking::NoRow;
-    };
-    match operation(rows, p) {
-        Some(Operation::Next(_)) => Breaking::OfStep(p),
-        Some(Operation::Until(_, _) | Operation::Always(_)) => Breaking::Of(p),
-        Some(Operation::Or(q, r)) => match (operation(rows, q), operation(rows, r)) {
-            (Some(Operation::Until(_, _)), Some(Operation::Always(_))) => Breaking::OfEither(q, r),
-            _ => Breaking::NoRow,
+// A rule about every step or route is "not p", and a route of p breaks it; p is an `or` of two such parts in A[p U q].
+// Absent where no single route shows why the rule breaks.
+pub(crate) fn breaking_parts(rule: Part<'_>) -> Option<Breaking<'_>> {
+    let p = rule.negated()?;
+    match p.operation()? {
+        Operation::Next(_) => Some(Breaking::Step(p)),
+        Operation::Until(_, _) | Operation::Always(_) => Some(Breaking::Route(p)),
+        Operation::Or(q, r) => match (p.at(q).operation()?, p.at(r).operation()?) {
+            (Operation::Until(_, _), Operation::Always(_)) => {
+                Some(Breaking::Either(p.at(q), p.at(r)))
+            }
+            _ => None,
         },
-        _ => Breaking::NoRow,
+        _ => None,
     }
 }

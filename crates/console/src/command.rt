@@ -15,7 +15,7 @@ pub(crate) enum Command {
 }
 
 // What the words so far ask for.
-#[derive(Drop)]
+#[derive(Default, Drop)]
 struct Options {
     help: bool,
     explain: bool,
@@ -28,23 +28,12 @@ impl Options {
         match word.as_str() {
             "--help" => self.help = true,
             "--explain" => self.explain = true,
-            "-" => return self.add_source(Source::Stdin, word),
-            other => {
-                if other.starts_with("-") {
-                    return Err(Problem::UnknownOption(word));
-                }
-                let name = word.clone()?;
-                return self.add_source(Source::File(name), word);
+            other if other.starts_with('-') && other != "-" => {
+                return Err(Problem::UnknownOption(word));
             }
+            _ if self.source.is_some() => return Err(Problem::SecondPlan(word)),
+            _ => self.source = Some(Source::from(word)),
         }
-        Ok(())
-    }
-
-    fn add_source(&mut self, source: Source, word: String) -> Result<(), Problem> {
-        if self.source.is_some() {
-            return Err(Problem::SecondPlan(word));
-        }
-        self.source = Some(source);
         Ok(())
     }
 
@@ -66,11 +55,7 @@ impl Options {
 
 // The command that the words behind the program's name give.
 pub(crate) fn read_words(words: Args) -> Result<Command, Problem> {
-    let mut options = Options {
-        help: false,
-        explain: false,
-        source: None,
-    };
+    let mut options = Options::default();
     for word in words.skip(1) {
         options.add(word)?;
     }

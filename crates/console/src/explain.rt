@@ -1,44 +1,48 @@
 // The report of a plan for people: below the line of each rule its text, its words, and the route that breaks it.
-use crate::breaking::{Breaking, breaking_rows};
-use crate::phrase::{CONDITIONS, last_row};
+use crate::breaking::Breaking;
+use crate::part::Part;
 use crate::problem::Problem;
-use crate::text::add_text;
-use crate::words::add_words;
+use crate::text::Printable;
 use crate::work::Work;
+use conditions::set::ConditionSet;
+use conditions::word::Word;
 use judging::shown::{Ending, RouteStep, Shown};
 use plan::file::PlanFile;
 use plan::file::open::OpenedFile;
 use std::alloc::{AllocError, Global};
-use tables::row::Row;
+use std::fmt;
 use verdicts::verdict::Verdict;
 
-// Adds the conditions that are on under a setting.
-fn add_setting(out: &mut String, setting: u32) -> Result<(), AllocError> {
-    if setting == 0 {
-        return out.push_str("no condition on");
-    }
-    let mut between = "";
-    for k in 0..CONDITIONS {
-        if setting >> k & 1 == 1 {
-            write!(out, "{between}c{k}")?;
-            between = " ";
+// The conditions that are on under a setting.
+#[derive(Clone, Copy)]
+struct Setting(u32);
+
+impl fmt::Display for Setting {
+    fn fmt<W: fmt::Write>(&self, f: &mut fmt::Formatter<W>) -> fmt::Result {
+        if self.0 == 0 {
+            return f.write_str("no condition on");
         }
+        for k in 0..Word::conditions() {
+            if self.0 >> k & 1 == 1 {
+                write!(f, "c{k} ")?;
+            }
+        }
+        f.write_str("on")
     }
-    out.push_str(" on")
 }
 
 // Adds how a route ends. A single step may lead back to where it began.
-fn add_ending(out: &mut String, ending: Ending, shown_of: Breaking) -> Result<(), AllocError> {
+fn add_ending(out: &mut String, ending: Ending, shown_of: Breaking<'_>) -> Result<(), AllocError> {
     match (ending, shown_of) {
-        (Ending::Reaches, _) => out.push_str("  and reaches a position that the rule forbids.\n"),
-        (Ending::Rests, _) => out.push_str("  and rests there: no step leads on.\n"),
-        (Ending::Returns(number), Breaking::OfStep(_)) => write!(
+        (Ending::Reaches, _) => writeln!(out, "  and reaches a position that the rule forbids."),
+        (Ending::Rests, _) => writeln!(out, "  and rests there: no step leads on."),
+        (Ending::Returns(number), Breaking::Step(_)) => writeln!(
             out,
-            "  and steps back to position {number}, a position that the rule forbids.\n"
+            "  and steps back to position {number}, a position that the rule forbids."
         ),
-        (Ending::Returns(number), _) => write!(
+        (Ending::Returns(number), _) => writeln!(
             out,
-            "  and goes round for ever from position {number}.\n"
+            "  and goes round for ever from position {number}."
         ),
     }
 }
@@ -48,14 +52,12 @@ fn add_route(
     out: &mut String,
     steps: &[RouteStep],
     shown: Shown,
-    shown_of: Breaking,
+    shown_of: Breaking<'_>,
 ) -> Result<(), AllocError> {
-    out.push_str("  This route breaks it:\n")?;
+    writeln!(out, "  This route breaks it:")?;
     for (number, step) in steps.iter().take(shown.count).enumerate() {
-        let place = step.place;
-        write!(out, "    {number}: place {place}, ")?;
-        add_setting(out, step.setting)?;
-        out.push_str("\n")?;
+        let RouteStep { place, setting } = *step;
+        writeln!(out, "    {number}: place {place}, {}", Setting(setting))?;
     }
     add_ending(out, shown.ending, shown_of)
 }
@@ -64,17 +66,22 @@ fn add_route(
 fn add_break(
     out: &mut String,
     plan: &PlanFile,
-    rows: &[Row],
+    rule: Part<'_>,
     at: RouteStep,
     work: &mut Work,
 ) -> Result<(), AllocError> {
-    let place = at.place;
-    write!(out, "  It breaks at the entry {place} with ")?;
-    add_setting(out, at.setting)?;
-    out.push_str(".\n")?;
-    match work.breaking_route(plan, rows, at) {
-        Some(shown) => add_route(out, work.steps.as_slice(), shown, breaking_rows(rows)),
-        None => out.push_str("  No single route shows why a rule of this form breaks.\n"),
+    let RouteStep { place, setting } = at;
+    writeln!(
+        out,
+        "  It breaks at the entry {place} with {}.",
+        Setting(setting)
+    )?;
+    match work.breaking_route(plan, rule, at) {
+        Some((shown_of, shown)) => add_route(out, &work.steps, shown, shown_of),
+        None => writeln!(
+            out,
+            "  No single route shows why a rule of this form breaks."
+        ),
     }
 }
 
@@ -82,30 +89,21 @@ fn add_break(
 fn add_rule(
     out: &mut String,
     plan: &PlanFile,
-    rule: usize,
+    number: usize,
     work: &mut Work,
 ) -> Result<(), AllocError> {
-    let (Some(text), Some(table)) = (plan.text(rule), plan.table(rule)) else {
+    let (Some(text), Some(table)) = (plan.text(number), plan.table(number)) else {
         return Ok(());
     };
-    let rows = table.rows();
-    out.push_str("  Rule: ")?;
-    add_text(out, text)?;
-    out.push_str("\n  It says: ")?;
-    add_words(out, rows, last_row(rows))?;
-    out.push_str(".\n")?;
-    match work.judge(plan, rows) {
-        Ok(judgement) => match judgement.verdict {
-            Verdict::Holds => out.push_str("  It holds at every entry under every setting.\n"),
-            Verdict::Breaks(place, setting) => {
-                let at = RouteStep { place, setting };
-                add_break(out, plan, rows, at, work)
-            }
-        },
-        Err(refusal) => {
-            let number = refusal.number();
-            write!(out, "  It is not judged (refusal {number}).\n")
+    let rule = Part::whole(table.rows());
+    writeln!(out, "  Rule: {}", Printable(text))?;
+    writeln!(out, "  It says: {rule}.")?;
+    match work.judge(plan, rule).map(|judgement| judgement.verdict) {
+        Ok(Verdict::Holds) => writeln!(out, "  It holds at every entry under every setting."),
+        Ok(Verdict::Breaks(place, setting)) => {
+            add_break(out, plan, rule, RouteStep { place, setting }, work)
         }
+        Err(refusal) => writeln!(out, "  It is not judged (refusal {}).", refusal.number()),
     }
 }
 
@@ -116,7 +114,7 @@ pub(crate) fn explained(heap: Global, file: &[u8], report: &[u8]) -> Result<Stri
     let mut work = Work::new(heap)?;
     let mut out = String::new(heap);
     for (rule, line) in lines.lines().enumerate() {
-        write!(out, "{line}\n")?;
+        writeln!(out, "{line}")?;
         add_rule(&mut out, &plan, rule, &mut work)?;
     }
     Ok(out)

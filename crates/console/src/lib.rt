@@ -6,6 +6,7 @@ mod command;
 mod explain;
 mod help;
 mod input;
+mod part;
 mod phrase;
 mod problem;
 mod refused;

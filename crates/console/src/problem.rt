@@ -1,5 +1,6 @@
 // Why a run fails, as it is told on standard error.
-use std::alloc::{AllocError, AllocFailed};
+use crate::refused::RefusedPlan;
+use std::alloc::AllocError;
 use std::{fmt, io};
 
 // Where a plan is read from.
@@ -20,11 +21,20 @@ pub(crate) enum Problem {
     Unread(Source, io::Error),
     // The input has more bytes than can be counted.
     Uncounted(Source),
-    // The plan is refused; the words say why.
-    Refused(String),
+    Refused(RefusedPlan),
     // Standard output cannot be written.
     Unwritten(io::Error),
     NoMemory,
+}
+
+// The plan that a word of the command line names: `-` is standard input.
+impl From<String> for Source {
+    fn from(word: String) -> Source {
+        if word.as_str() == "-" {
+            return Source::Stdin;
+        }
+        Source::File(word)
+    }
 }
 
 impl fmt::Display for Source {
@@ -51,7 +61,7 @@ impl fmt::Display for Problem {
             Problem::Unopened(name, error) => write!(f, "{name} cannot be opened: {error}"),
             Problem::Unread(source, error) => write!(f, "{source} cannot be read: {error}"),
             Problem::Uncounted(source) => write!(f, "{source} is too long to be counted"),
-            Problem::Refused(words) => write!(f, "{words}"),
+            Problem::Refused(plan) => write!(f, "{plan}"),
             Problem::Unwritten(error) => write!(f, "standard output cannot be written: {error}"),
             Problem::NoMemory => write!(f, "there is not enough memory"),
         }
@@ -60,12 +70,6 @@ impl fmt::Display for Problem {
 
 impl From<AllocError> for Problem {
     fn from(_error: AllocError) -> Problem {
-        Problem::NoMemory
-    }
-}
-
-impl<T: Drop> From<AllocFailed<T>> for Problem {
-    fn from(_refused: AllocFailed<T>) -> Problem {
         Problem::NoMemory
     }
 }

@@ -1,9 +1,17 @@
 // A refusal in words.
 use crate::problem::Source;
-use crate::text::{add_text, rule_text};
+use crate::text::{Printable, rule_text};
 use plan::fault::{FileFault, FileFaultKind, PlanFault};
 use rule_text::fault::{Fault, FaultKind};
-use std::alloc::AllocError;
+use std::fmt;
+
+// A plan that is refused: where it is from, the front of its file, and its fault.
+#[derive(Drop)]
+pub(crate) struct RefusedPlan {
+    pub(crate) source: Source,
+    pub(crate) file: Vec<u8>,
+    pub(crate) fault: PlanFault,
+}
 
 fn file_words(kind: FileFaultKind) -> &'static str {
     match kind {
@@ -17,13 +25,8 @@ fn file_words(kind: FileFaultKind) -> &'static str {
 fn text_words(fault: Fault, length: usize) -> &'static str {
     match fault.kind {
         FaultKind::UnknownWord => "a word is unknown, or a byte is a stray one",
-        FaultKind::CannotFollow => {
-            if fault.byte >= length {
-                "the rule is unfinished at its end"
-            } else {
-                "a word cannot follow the words before it"
-            }
-        }
+        FaultKind::CannotFollow if fault.byte >= length => "the rule is unfinished at its end",
+        FaultKind::CannotFollow => "a word cannot follow the words before it",
         FaultKind::OutOfRange => "the number of a mark or a condition is out of range",
         FaultKind::TooDeep => "a word stands too deep, at a 33rd level",
         FaultKind::TooManyRows => "the rule has too many rows, over 32",
@@ -31,57 +34,42 @@ fn text_words(fault: Fault, length: usize) -> &'static str {
     }
 }
 
-fn add_file_fault(out: &mut String, fault: FileFault) -> Result<(), AllocError> {
+fn write_file_fault<W: fmt::Write>(f: &mut fmt::Formatter<W>, fault: FileFault) -> fmt::Result {
     let words = file_words(fault.kind);
     let number = fault.number();
-    let byte = fault.byte;
-    match fault.kind {
-        FileFaultKind::WrongLength => write!(
-            out,
-            "{words} (refusal {number}, at its end, byte {byte})"
-        ),
-        _ => write!(out, "{words} (refusal {number}, at byte {byte})"),
-    }
+    let at = match fault.kind {
+        FileFaultKind::WrongLength => "at its end, byte",
+        _ => "at byte",
+    };
+    write!(f, "{words} (refusal {number}, {at} {})", fault.byte)
 }
 
-// Adds the text on a line, and on the next a caret below the byte.
-fn add_pointed(out: &mut String, text: &[u8], byte: usize) -> Result<(), AllocError> {
-    out.push_str("\n  ")?;
-    add_text(out, text)?;
-    out.push_str("\n  ")?;
-    for _ in 0..byte {
-        out.push_str(" ")?;
-    }
-    out.push_str("^")
-}
-
-fn add_text_fault(
-    out: &mut String,
-    file: &[u8],
+// Writes what is wrong, the text on a line, and on the next a caret below the byte.
+fn write_text_fault<W: fmt::Write>(
+    f: &mut fmt::Formatter<W>,
     rule: usize,
+    text: &[u8],
     fault: Fault,
-) -> Result<(), AllocError> {
-    let text = rule_text(file, rule).unwrap_or(&[]);
+) -> fmt::Result {
     let words = text_words(fault, text.len());
     let number = fault.number();
     let byte = fault.byte;
     write!(
-        out,
+        f,
         "{words} (refusal {number}, in rule {rule}, at byte {byte} of its text)"
     )?;
-    add_pointed(out, text, byte)
+    write!(f, "\n  {}\n  {:byte$}^", Printable(text), "")
 }
 
-// Adds what is wrong with the plan, and where.
-pub(crate) fn add_refusal(
-    out: &mut String,
-    source: &Source,
-    file: &[u8],
-    fault: PlanFault,
-) -> Result<(), AllocError> {
-    write!(out, "{source} is refused: ")?;
-    match fault {
-        PlanFault::InFile(fault) => add_file_fault(out, fault),
-        PlanFault::InText(rule, fault) => add_text_fault(out, file, rule, fault),
+impl fmt::Display for RefusedPlan {
+    fn fmt<W: fmt::Write>(&self, f: &mut fmt::Formatter<W>) -> fmt::Result {
+        write!(f, "{} is refused: ", self.source)?;
+        match self.fault {
+            PlanFault::InFile(fault) => write_file_fault(f, fault),
+            PlanFault::InText(rule, fault) => {
+                let text = rule_text(&self.file, rule).unwrap_or(&[]);
+                write_text_fault(f, rule, text, fault)
+            }
+        }
     }
 }

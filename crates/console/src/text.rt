@@ -1,5 +1,5 @@
 // The texts of rules, as they are printed.
-use std::alloc::AllocError;
+use std::fmt;
 
 // The number in the two bytes at `at`, the lowest byte first.
 fn field_of_2(file: &[u8], at: usize) -> Option<usize> {
@@ -29,13 +29,19 @@ pub(crate) fn rule_text(file: &[u8], rule: usize) -> Option<&[u8]> {
     Some(&file[start..end])
 }
 
-// Adds a text, with `?` for each byte that is no printable ASCII.
-pub(crate) fn add_text(out: &mut String, text: &[u8]) -> Result<(), AllocError> {
-    for byte in text.iter() {
-        match *byte {
-            b' '..=b'~' => out.push(char::from(*byte))?,
-            _ => out.push('?')?,
+// A text as it is printed, with `?` for each byte that is no printable ASCII.
+#[derive(Clone, Copy)]
+pub(crate) struct Printable<'a>(pub(crate) &'a [u8]);
+
+impl fmt::Display for Printable<'_> {
+    fn fmt<W: fmt::Write>(&self, f: &mut fmt::Formatter<W>) -> fmt::Result {
+        for byte in self.0 {
+            let c = match *byte {
+                b' '..=b'~' => char::from(*byte),
+                _ => '?',
+            };
+            f.write_char(c)?;
         }
+        Ok(())
     }
-    Ok(())
 }

@@ -1,11 +1,11 @@
 // A rule in words.
+use crate::part::Part;
 use crate::phrase::{Phrase, phrase_of};
-use std::alloc::AllocError;
-use tables::row::Row;
+use std::fmt;
 
 // Whether a part stands in brackets: all but the shortest do, and those that go on with the same "and" or "or".
-fn is_bracketed(part: Option<Phrase>, around: Option<Phrase>) -> bool {
-    match (part, around) {
+fn is_bracketed(part: Part<'_>, around: Part<'_>) -> bool {
+    match (phrase_of(part), phrase_of(around)) {
         (Some(Phrase::Yes | Phrase::Mark(_) | Phrase::On(_) | Phrase::Off(_)), _) => false,
         (Some(Phrase::And(_, _)), Some(Phrase::And(_, _))) => false,
         (Some(Phrase::Or(_, _)), Some(Phrase::Or(_, _))) => false,
@@ -13,56 +13,65 @@ fn is_bracketed(part: Option<Phrase>, around: Option<Phrase>) -> bool {
     }
 }
 
-// Adds a part of the row, which is an earlier row.
-#[cycle(add_part_add_two_add_words)]
-fn add_part(out: &mut String, rows: &[Row], part: u8, row: u8) -> Result<(), AllocError> {
-    if part >= row {
+// Writes a part of another, which stands at an earlier row.
+#[cycle(write_inner_write_two_write_part)]
+fn write_inner<W: fmt::Write>(
+    f: &mut fmt::Formatter<W>,
+    part: Part<'_>,
+    around: Part<'_>,
+) -> fmt::Result {
+    if part.number >= around.number {
         return Ok(());
     }
-    if !is_bracketed(phrase_of(rows, part), phrase_of(rows, row)) {
-        return add_words(out, rows, part);
+    if !is_bracketed(part, around) {
+        return write_part(f, part);
     }
-    out.push_str("(")?;
-    add_words(out, rows, part)?;
-    out.push_str(")")
+    f.write_str("(")?;
+    write_part(f, part)?;
+    f.write_str(")")
 }
 
-// Adds two parts of the row, and the words between them.
-#[cycle(add_part_add_two_add_words)]
-fn add_two(
-    out: &mut String,
-    rows: &[Row],
-    p: u8,
+// Writes two parts of another, and the words between them.
+#[cycle(write_inner_write_two_write_part)]
+fn write_two<W: fmt::Write>(
+    f: &mut fmt::Formatter<W>,
+    p: Part<'_>,
     between: &str,
-    q: u8,
-    row: u8,
-) -> Result<(), AllocError> {
-    add_part(out, rows, p, row)?;
-    out.push_str(between)?;
-    add_part(out, rows, q, row)
+    q: Part<'_>,
+    around: Part<'_>,
+) -> fmt::Result {
+    write_inner(f, p, around)?;
+    f.write_str(between)?;
+    write_inner(f, q, around)
 }
 
-// Adds what a row of a rule's table says.
-#[cycle(add_part_add_two_add_words)]
-pub(crate) fn add_words(out: &mut String, rows: &[Row], row: u8) -> Result<(), AllocError> {
-    let Some(said) = phrase_of(rows, row) else {
+// Writes what a part says.
+#[cycle(write_inner_write_two_write_part)]
+fn write_part<W: fmt::Write>(f: &mut fmt::Formatter<W>, part: Part<'_>) -> fmt::Result {
+    let Some(said) = phrase_of(part) else {
         return Ok(());
     };
     match said {
-        Phrase::Yes => out.push_str("yes"),
-        Phrase::Mark(k) => write!(out, "mark {k}"),
-        Phrase::On(k) => write!(out, "condition {k} on"),
-        Phrase::Off(k) => write!(out, "condition {k} off"),
-        Phrase::Fact(words) => out.push_str(words),
-        Phrase::And(p, q) => add_two(out, rows, p, " and ", q, row),
-        Phrase::Or(p, q) => add_two(out, rows, p, " or ", q, row),
+        Phrase::Yes => f.write_str("yes"),
+        Phrase::Mark(k) => write!(f, "mark {k}"),
+        Phrase::On(k) => write!(f, "condition {k} on"),
+        Phrase::Off(k) => write!(f, "condition {k} off"),
+        Phrase::Fact(words) => f.write_str(words),
+        Phrase::And(p, q) => write_two(f, p, " and ", q, part),
+        Phrase::Or(p, q) => write_two(f, p, " or ", q, part),
         Phrase::Of(front, p) => {
-            out.push_str(front)?;
-            add_part(out, rows, p, row)
+            f.write_str(front)?;
+            write_inner(f, p, part)
         }
         Phrase::OfTwo(front, p, between, q) => {
-            out.push_str(front)?;
-            add_two(out, rows, p, between, q, row)
+            f.write_str(front)?;
+            write_two(f, p, between, q, part)
         }
+    }
+}
+
+impl fmt::Display for Part<'_> {
+    fn fmt<W: fmt::Write>(&self, f: &mut fmt::Formatter<W>) -> fmt::Result {
+        write_part(f, *self)
     }
 }

@@ -1,21 +1,25 @@
 // Room to judge a rule of any plan in, and to show a route.
-use crate::breaking::{Breaking, breaking_rows};
+use crate::breaking::{Breaking, breaking_parts};
+use crate::part::Part;
 use conditions::word::Word;
 use judging::route::route;
 use judging::shown::{RouteStep, Shown};
 use plan::file::PlanFile;
 use routing::refusal::Refusal;
 use std::alloc::{AllocError, Global};
-use tables::row::Row;
+use tables::table::MOST_ROWS;
 use verdicts::entries::judge_entries;
 use verdicts::verdict::Judgement;
 
-// 32 rows by 256 places; two rows; and one step more than places.
-const MAIN_ROOM: usize = 8192;
+// The most places of a plan.
+const MOST_PLACES: usize = 256;
 
-const SPARE_ROOM: usize = 512;
+// A set for each row and place, two for each place, and one step more than places.
+const MAIN_ROOM: usize = MOST_ROWS * MOST_PLACES;
 
-const STEPS_ROOM: usize = 257;
+const SPARE_ROOM: usize = 2 * MOST_PLACES;
+
+const STEPS_ROOM: usize = MOST_PLACES + 1;
 
 #[derive(Drop)]
 pub(crate) struct Work {
@@ -37,48 +41,40 @@ impl Work {
         })
     }
 
-    pub(crate) fn judge(&mut self, plan: &PlanFile, rows: &[Row]) -> Result<Judgement, Refusal> {
-        judge_entries(
-            plan,
-            rows,
-            self.main.as_mut_slice(),
-            self.spare.as_mut_slice(),
-        )
+    // Judges a rule of a plan.
+    pub(crate) fn judge(&mut self, plan: &PlanFile, rule: Part<'_>) -> Result<Judgement, Refusal> {
+        judge_entries(plan, rule.rows, &mut self.main, &mut self.spare)
     }
 
-    fn route(
-        &mut self,
-        plan: &PlanFile,
-        rows: &[Row],
-        row: u8,
-        at: RouteStep,
-    ) -> Result<Shown, Refusal> {
+    // Writes the steps of a route that shows a part at a position.
+    fn route(&mut self, plan: &PlanFile, part: Part<'_>, at: RouteStep) -> Result<Shown, Refusal> {
         route(
             plan,
-            rows,
-            row as usize,
+            part.rows,
+            part.number,
             at,
-            self.main.as_mut_slice(),
-            self.spare.as_mut_slice(),
-            self.steps.as_mut_slice(),
+            &mut self.main,
+            &mut self.spare,
+            &mut self.steps,
         )
     }
 
-    // Writes the steps of a route that shows why the rule breaks at a position; absent where no single route does.
-    pub(crate) fn breaking_route(
+    // Writes the steps of a route that shows why a rule breaks at a position, and answers what it is a route of; absent
+    // where no single route shows it.
+    pub(crate) fn breaking_route<'a>(
         &mut self,
         plan: &PlanFile,
-        rows: &[Row],
+        rule: Part<'a>,
         at: RouteStep,
-    ) -> Option<Shown> {
-        match breaking_rows(rows) {
-            Breaking::NoRow => None,
-            Breaking::OfStep(p) | Breaking::Of(p) => self.route(plan, rows, p, at).ok(),
-            Breaking::OfEither(q, r) => match self.route(plan, rows, q, at) {
-                Ok(shown) => Some(shown),
-                Err(Refusal::RowFails) => self.route(plan, rows, r, at).ok(),
-                Err(_) => None,
+    ) -> Option<(Breaking<'a>, Shown)> {
+        let breaking = breaking_parts(rule)?;
+        let shown = match breaking {
+            Breaking::Step(p) | Breaking::Route(p) => self.route(plan, p, at),
+            Breaking::Either(q, r) => match self.route(plan, q, at) {
+                Err(Refusal::RowFails) => self.route(plan, r, at),
+                shown => shown,
             },
-        }
+        };
+        Some((breaking, shown.ok()?))
     }
 }

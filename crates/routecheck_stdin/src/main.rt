@@ -1,12 +1,10 @@
-// Judges the rules of a plan, as routecheck_plan does; it is run on a plan from standard input.
+// Judges the rules of a plan, as routecheck_plan does. A crate has one stored run, with one command line and one input:
+// here no words, and a plan from standard input.
 #![tactic(auto)]
 
-use console::run::{Failed, run};
+use console::run::run;
 use std::process::ExitCode;
 
 fn main(rt: HostRuntime) -> ExitCode {
-    match run(&rt) {
-        Ok(()) => ExitCode::SUCCESS,
-        Err(Failed) => ExitCode::FAILURE,
-    }
+    run(&rt)
 }
