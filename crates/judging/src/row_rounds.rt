@@ -39,6 +39,7 @@ pub(crate) fn steps_into<N: Network>(net: &N, sets: &[N::Set], out: &mut [N::Set
         (SomeNext (N.meaning net.now) (Is (covers N.Set.ConditionSet.holds sets.now))) }
 {
     fill(out, N::Set::none());
+    // By number, as a network answers its bindings.
     for i in 0..net.bindings() {
         if let Some(b) = net.binding(i) {
             forward(&b, sets, out);
