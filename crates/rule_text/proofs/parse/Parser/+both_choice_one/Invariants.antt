@@ -14,7 +14,8 @@ abbrev pub decreases-one : goal.decreases-one
 decreases-one l = 3 * l.levels
 
 abbrev pub invariant-both-loop-self : goal.invariant-both-loop-self
-invariant-both-loop-self l = Onward l.initial.self.reader l.self.reader × (l.initial.self.reader.start ≤ l.self.reader.start) × Joining l.levels l.initial.self l.self l.initial.left l.left
+invariant-both-loop-self l = Onward l.initial.self.reader l.self.reader × (l.initial.self.reader.start ≤ l.self.reader.start) × Joining l.levels
+    l.initial.self l.self l.initial.left l.left
 
 -- unread bytes
 abbrev pub decreases-both-loop-self : goal.decreases-both-loop-self
