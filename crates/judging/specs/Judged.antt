@@ -1,5 +1,5 @@
 -- What judging answers and writes.
-use Rattle.std.specs.Prelude.{◌≡◌, ℕ, zero, suc, ◌+◌, ◌*◌, ◌<◌, Bool, false, cond, ◌&&◌, List, length, drop, Some, None, Option, nat_le}
+use Rattle.std.specs.Prelude.{◌≡◌, ℕ, zero, suc, ◌+◌, ◌*◌, ◌<◌, ◌≤◌, Bool, false, cond, ◌&&◌, List, length, drop, Some, None, Option, nat_le}
 use Rattle.std.specs.List.{slice_get, between}
 use Rattle.routing.specs.declared.refusal.Refusal.{Refusal}
 use Rattle.routing.specs.declared.refusal.Refusal.TheVariants.{BadTable, TooShort}
@@ -32,6 +32,13 @@ PerPlace N sets = length sets ≡ places N
 -- The part of the main list for row r, of n places: the numbers r × n to r × n + n - 1.
 abbrev pub row_part : {S : Type 0} → ℕ → ℕ → List S → List S
 row_part n r main = between (r * n) (r * n + n) main
+
+-- The main list has a part for row r; the spare has two halves with a set for each place.
+abbrev pub HasPart : {S : Type 0} → Net → ℕ → List S → Type 0
+HasPart N r main = r * places N + places N ≤ length main
+
+abbrev pub HasHalves : {S : Type 0} → Net → List S → Type 0
+HasHalves N spare = 2 * places N ≤ length spare
 
 -- The rounds of a rule: the least stable index of E[p U q] and of EG p, and 0 for the others.
 abbrev pub RoundsOf : Net → Rule → ℕ → Type 0

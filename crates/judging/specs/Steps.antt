@@ -1,5 +1,5 @@
 -- Positions as the records of a steps list.
-use Rattle.std.specs.Prelude.{◌≡◌, ◌+◌, Bool, List, [], map, length, take, drop, Some, None, Option}
+use Rattle.std.specs.Prelude.{◌≡◌, ◌+◌, ◌≤◌, Bool, List, [], map, length, take, drop, Some, None, Option}
 use Rattle.routing.specs.Net.{Net, Pos, places}
 use Rattle.tables.specs.declared.row.Operation.{Operation}
 use Rattle.tables.specs.declared.row.Operation.TheVariants.{Yes, Mark, Condition, Not, And, Or, Next, Until, Always}
@@ -20,6 +20,10 @@ as_steps ps = map as_step ps
 abbrev pub as_next : Option Pos → Option RouteStep
 as_next None = None
 as_next (Some x) = Some (as_step x)
+
+-- The list has a record for each place and one more, which is enough for any route that is shown.
+abbrev pub HasSteps : Net → List RouteStep → Type 0
+HasSteps N steps = places N + 1 ≤ length steps
 
 -- The route that is chosen stands at the front of the list, the rest of which is as before; the answer counts its positions and has its ending.
 pub record Written (c : Chosen) (before after : List RouteStep) (s : Shown) : Type 0 where

@@ -3,7 +3,7 @@ ghost use Rattle.std.specs.Prelude.{◌≡◌, ◌+◌, ◌≤◌, [], map, leng
 ghost use Rattle.routing.specs.Net.{places};
 ghost use Rattle.judging.specs.Judged.{covers, PerPlace};
 ghost use Rattle.judging.specs.Chosen.{index_of, walk_always};
-ghost use Rattle.judging.specs.Steps.{as_pos, Written};
+ghost use Rattle.judging.specs.Steps.{as_pos, Written, HasSteps};
 
 use crate::next::next_into;
 use crate::shown::{Ending, RouteStep, Shown};
@@ -30,7 +30,7 @@ pub(crate) fn walk_within<N: Network>(
     steps: &mut [RouteStep],
 ) -> Shown
     requires sets { PerPlace (N.meaning net.now) sets.now }
-    requires room { places (N.meaning net.now) + 1 ≤ length steps.old }
+    requires room { HasSteps (N.meaning net.now) steps.old }
     ensures { Written
         (walk_always (N.meaning net.now) (covers N.Set.ConditionSet.holds sets.now) (places (N.meaning net.now) + 1) []
         (as_pos start))

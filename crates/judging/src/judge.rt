@@ -3,7 +3,7 @@ ghost use Rattle.std.specs.Prelude.{◌≡◌, ◌*◌, ◌≤◌, true, length,
 ghost use Rattle.std.specs.Result.{result_err};
 ghost use Rattle.routing.specs.Net.{places};
 ghost use Rattle.tables.specs.Tables.{accepted};
-ghost use Rattle.judging.specs.Judged.{Judged, judge_refusal};
+ghost use Rattle.judging.specs.Judged.{Judged, judge_refusal, HasHalves};
 
 use crate::work::judge_row;
 use conditions::set::ConditionSet;
@@ -21,7 +21,7 @@ pub(crate) fn judge_rows<N: Network>(
 ) -> usize
     requires taken { accepted (N.meaning net.now).conditions table.now ≡ true }
     requires room { length table.now * places (N.meaning net.now) ≤ length main.old }
-    requires halves { 2 * places (N.meaning net.now) ≤ length spare.old }
+    requires halves { HasHalves (N.meaning net.now) spare.old }
     ensures { Judged N.Set.ConditionSet.holds (N.meaning net.now) table.now main.old main.new result }
 {
     let conditions = net.conditions();

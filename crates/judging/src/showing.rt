@@ -3,9 +3,9 @@ ghost use Rattle.std.specs.Prelude.{◌≡◌, ◌+◌, ◌*◌, ◌<◌, ◌≤
 ghost use Rattle.routing.specs.Net.{Within, places};
 ghost use Rattle.tables.specs.Tables.{coded};
 ghost use Rattle.judging.specs.Chosen.{chosen_next, chosen_until, next_in};
-ghost use Rattle.judging.specs.Judged.{covers, row_part, PerPlace};
+ghost use Rattle.judging.specs.Judged.{covers, row_part, PerPlace, HasHalves, HasPart};
 ghost use Rattle.judging.specs.Shapes.{first_is_row, second_is_row};
-ghost use Rattle.judging.specs.Steps.{as_pos, chosen_by, Written};
+ghost use Rattle.judging.specs.Steps.{as_pos, chosen_by, Written, HasSteps};
 
 use crate::always::walk_within;
 use crate::next::next_into;
@@ -60,7 +60,7 @@ fn walk_until<N: Network>(
     requires p { PerPlace (N.meaning net.now) p.now }
     requires into { PerPlace (N.meaning net.now) into.old }
     requires inside { Within (N.meaning net.now) (as_pos at) }
-    requires room { places (N.meaning net.now) + 1 ≤ length steps.old }
+    requires room { HasSteps (N.meaning net.now) steps.old }
     ensures { Written
         (chosen_until (N.meaning net.now)
         (covers N.Set.ConditionSet.holds p.now) (covers N.Set.ConditionSet.holds part.old) (as_pos at))
@@ -90,9 +90,9 @@ fn show_until<N: Network>(
     requires first { p < row }
     requires second { q < row }
     requires inside { Within (N.meaning net.now) (as_pos at) }
-    requires room { row * places (N.meaning net.now) + places (N.meaning net.now) ≤ length main.old }
-    requires halves { 2 * places (N.meaning net.now) ≤ length spare.old }
-    requires list { places (N.meaning net.now) + 1 ≤ length steps.old }
+    requires room { HasPart (N.meaning net.now) row main.old }
+    requires halves { HasHalves (N.meaning net.now) spare.old }
+    requires list { HasSteps (N.meaning net.now) steps.old }
     ensures { Written
         (chosen_until (N.meaning net.now)
         (covers N.Set.ConditionSet.holds (row_part (places (N.meaning net.now)) p main.old))
@@ -120,7 +120,7 @@ fn part_of<S: ConditionSet>(main: &[S], row: usize, places: usize) -> &[S]
 
 // Whether a judged row has the position.
 pub(crate) fn holds_at<N: Network>(net: &N, main: &[N::Set], row: usize, at: RouteStep) -> bool
-    requires room { row * places (N.meaning net.now) + places (N.meaning net.now) ≤ length main.now }
+    requires room { HasPart (N.meaning net.now) row main.now }
     requires inside { at.place < places (N.meaning net.now) }
     ensures { result
         ≡ covers N.Set.ConditionSet.holds (row_part (places (N.meaning net.now)) row main.now) (as_pos at) }
@@ -143,9 +143,9 @@ pub(crate) fn show_row<N: Network>(
     requires first { first_is_row op ≡ true → (coded op).first < row }
     requires second { second_is_row op ≡ true → (coded op).second < row }
     requires inside { Within (N.meaning net.now) (as_pos at) }
-    requires room { row * places (N.meaning net.now) + places (N.meaning net.now) ≤ length main.old }
-    requires halves { 2 * places (N.meaning net.now) ≤ length spare.old }
-    requires list { places (N.meaning net.now) + 1 ≤ length steps.old }
+    requires room { HasPart (N.meaning net.now) row main.old }
+    requires halves { HasHalves (N.meaning net.now) spare.old }
+    requires list { HasSteps (N.meaning net.now) steps.old }
     ensures { Written
         (chosen_by (N.meaning net.now) op
         (covers N.Set.ConditionSet.holds (row_part (places (N.meaning net.now)) (coded op).first main.old))

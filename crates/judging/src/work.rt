@@ -5,7 +5,7 @@ ghost use Rattle.routing.specs.Net.{Pos, Rests, places};
 ghost use Rattle.rounds.specs.Claims.{Is};
 ghost use Rattle.rounds.specs.Rounds.{Decided};
 ghost use Rattle.tables.specs.Tables.{coded};
-ghost use Rattle.judging.specs.Judged.{covers, row_part, PerPlace};
+ghost use Rattle.judging.specs.Judged.{covers, row_part, PerPlace, HasHalves, HasPart};
 ghost use Rattle.judging.specs.Shapes.{Shape, Rounds, Named, first_is_row, second_is_row};
 
 use crate::row_rounds::{always_rounds, steps_into, until_rounds};
@@ -154,8 +154,8 @@ pub(crate) fn judge_row<N: Network>(
     requires named { Named N.Set.ConditionSet.count op }
     requires first { first_is_row op ≡ true → (coded op).first < row }
     requires second { second_is_row op ≡ true → (coded op).second < row }
-    requires room { row * places (N.meaning net.now) + places (N.meaning net.now) ≤ length main.old }
-    requires halves { 2 * places (N.meaning net.now) ≤ length spare.old }
+    requires room { HasPart (N.meaning net.now) row main.old }
+    requires halves { HasHalves (N.meaning net.now) spare.old }
     ensures few { result ≤ places (N.meaning net.now) }
     ensures before { take (row * places (N.meaning net.now)) main.new
         ≡ take (row * places (N.meaning net.now)) main.old }
