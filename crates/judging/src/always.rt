@@ -1,5 +1,5 @@
 // Walking a route that keeps to a set.
-ghost use Rattle.std.specs.Prelude.{◌≡◌, ◌+◌, ◌≤◌, [], map, length};
+ghost use Rattle.std.specs.Prelude.{◌≡◌, ◌+◌, [], map};
 ghost use Rattle.routing.specs.Net.{places};
 ghost use Rattle.judging.specs.Judged.{covers, PerPlace};
 ghost use Rattle.judging.specs.Chosen.{index_of, walk_always};

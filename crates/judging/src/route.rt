@@ -1,5 +1,5 @@
 // Asking for a route that shows a row.
-ghost use Rattle.std.specs.Prelude.{◌≡◌, ◌^◌, length, IfOk, slice_index_or};
+ghost use Rattle.std.specs.Prelude.{◌≡◌, ◌^◌, IfOk, slice_index_or};
 ghost use Rattle.std.specs.Result.{result_err};
 ghost use Rattle.tables.specs.Tables.{coded, no_row};
 ghost use Rattle.judging.specs.Answers.{RouteAnswer};

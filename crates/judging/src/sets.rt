@@ -1,5 +1,5 @@
 // Lists with a set for each place.
-ghost use Rattle.std.specs.Prelude.{◌≡◌, ℕ, ◌^◌, ◌<◌, Bool, true, false, not, ◌&&◌, ◌||◌, length, Decides, nat_lt};
+ghost use Rattle.std.specs.Prelude.{◌≡◌, ℕ, ◌^◌, ◌<◌, Bool, true, not, ◌&&◌, ◌||◌, length, Decides, nat_lt};
 ghost use Rattle.routing.specs.Net.{Pos};
 ghost use Rattle.judging.specs.Judged.{covers};
 ghost use Rattle.judging.specs.Rules.{Makes};

@@ -1,5 +1,5 @@
 // Working one row of a table.
-ghost use Rattle.std.specs.Prelude.{◌≡◌, ℕ, ◌+◌, ◌*◌, ◌^◌, ◌<◌, ◌≤◌, true, ◌&&◌, length, take, drop, IfSome, if◌then◌else◌, Some, None, nat_lt, slice_index};
+ghost use Rattle.std.specs.Prelude.{◌≡◌, ◌+◌, ◌*◌, ◌^◌, ◌<◌, ◌≤◌, true, ◌&&◌, length, take, drop, IfSome, if◌then◌else◌, Some, None, nat_lt, slice_index};
 ghost use Rattle.conditions.specs.Sets.{bit};
 ghost use Rattle.routing.specs.Net.{Pos, Rests, places};
 ghost use Rattle.rounds.specs.Claims.{Is};
