@@ -1,6 +1,7 @@
 -- Rows added to a table.
 use Rattle.std.proofs.Common.{◌≡◌, ℕ, ◌+◌, Bool, true, false, cond, ltb, List, [], ◌∷◌, ◌++◌, length, Some, None, Option, ◌≢◌, sym, refl, ap, ◌∙◌, add-zero, arith, length-append}
 use Rattle.std.proofs.lemmas.List.{append_assoc, append-nil}
+use Rattle.std.proofs.lemmas.List.Sums.{fold-append}
 use Rattle.tables.specs.declared.row.Row.{Row}
 use Rattle.routing.specs.Rules.{Rule, truth, mark, condition, non, both, either, ex, eu, eg, ef, ax, au, ag, af}
 use Rattle.tables.specs.declared.row.Operation.TheVariants.{Yes as YesRow, Mark as MarkRow, Condition as ConditionRow, Not as NotRow, And as AndRow, Or as OrRow, Until as UntilRow, Always as AlwaysRow}
@@ -17,10 +18,6 @@ use Rattle.rule_text.specs.Descent.{rows_kept, next_number, push_row, push_rows,
 pub push_none : (ws : List Row) → push_rows None ws ≡ None
 push_none [] = refl
 push_none (w ∷ ws) = push_none ws
-
-pub push_append : (k : Option (List Row)) (vs ws : List Row) → push_rows k (vs ++ ws) ≡ push_rows (push_rows k vs) ws
-push_append k [] ws = refl
-push_append k (v ∷ vs) ws = push_append (push_row k v) vs ws
 
 -- Rows that are kept are those before and the new ones.
 pub push_some : (ws rows us : List Row) → Some us ≡ push_rows (Some rows) ws → us ≡ rows ++ ws
@@ -87,7 +84,7 @@ behind_rule t u p r h a =
     at_last (rows_kept u) r e (λ i. h i (next_number (rows_kept u))) a.last_is long
     ∙ at_next (rows_kept u) (e + 1) (h e) long
     ∙ ap (λ q. push_rows q (h e (e + 1))) a.rows_are
-    ∙ sym (push_append k (rows_of n p) (h e (e + 1)))
+    ∙ sym (fold-append push_row k (rows_of n p) (h e (e + 1)))
 
 -- Words.
 pub added_yes : (t u : Option Table) (r : ℕ) → rows_kept u ≡ push_row (rows_kept t) (coded YesRow) → LastIs (rows_kept u) r → Added t u truth r
@@ -142,7 +139,7 @@ added_prefix x t t₁ u₁ u p first part r opened f a closed l =
           ∙ at_next (rows_kept t₁) m (λ i. rows_of i p ++ closing_rows x first (root i p) (root i p + 1)) long
           ∙ at_first x (rows_kept t₁) first n (root m p) (root m p + 1) (rows_of m p) f long
           ∙ ap (λ q. push_rows q (rows_of m p ++ closing_rows x n (root m p) (root m p + 1))) opened
-          ∙ sym (push_append k (opening_rows x) (rows_of m p ++ closing_rows x n (root m p) (root m p + 1)))
+          ∙ sym (fold-append push_row k (opening_rows x) (rows_of m p ++ closing_rows x n (root m p) (root m p + 1)))
           ∙ ap (push_rows k) (prefix_rows x n p);
       last_is = l;
     }

@@ -1,11 +1,12 @@
 -- The tables that are read are such as judging takes.
-use Rattle.std.proofs.Common.{◌≡◌, ℕ, suc, ◌+◌, ◌<◌, ◌≤◌, Bool, true, false, cond, ◌&&◌, ltb, leb, List, [], ◌∷◌, ◌++◌, length, Some, None, Ok, Err, Option, Result, sym, refl, subst, arith}
+use Rattle.std.proofs.Common.{◌∙◌, ◌≡◌, ℕ, suc, ◌+◌, ◌<◌, ◌≤◌, Bool, true, false, cond, ◌&&◌, ltb, leb, List, [], ◌∷◌, ◌++◌, length, Some, None, Ok, Err, Option, Result, sym, refl, subst, arith}
 use Rattle.routing.specs.Rules.{Rule, truth, mark, condition, non, both, either, ex, eu, eg, ef, ax, au, ag, af}
 use Rattle.rule_text.specs.declared.word.Prefix.{Prefix}
 use Rattle.rule_text.specs.declared.word.Quantifier.{Quantifier}
 use Rattle.rule_text.specs.declared.word.Word.{Word}
 use Rattle.rule_text.specs.declared.word.Word.TheVariants.{Until, And, Or, Close, CloseSquare}
 use Rattle.rule_text.specs.Grammar.{prefix_rule, until_rule, Strength, Forms, yes_word, mark_word, condition_word, prefixed, bracketed, until, single, and_words, alone, or_words, IsRule}
+use Rattle.std.proofs.lemmas.List.Folds.{list_all-append}
 use Rattle.std.proofs.lemmas.Bool.{and_parts, and_from, lt-ltb, le-leb, ltb-true}
 use Rattle.tables.specs.declared.row.Row.{Row}
 use Rattle.tables.specs.declared.row.Operation.TheVariants.{Not as NotRow, Until as UntilRow}
@@ -23,16 +24,10 @@ use Rattle.rule_text.proofs.Emitted.{root_len}
 use Rattle.rule_text.proofs.Grown.{root_from}
 
 in_append : (K : ℕ) (us ws : List Word) → all_in_range K (us ++ ws) ≡ true → (all_in_range K us ≡ true) × (all_in_range K ws ≡ true)
-in_append K [] ws h = (refl, h)
-in_append K (u ∷ us) ws h =
-    let a = and_parts (in_range K u) (all_in_range K (us ++ ws)) h in
-    let b = in_append K us ws a.1 in
-    (and_from (in_range K u) (all_in_range K us) a.0 b.0, b.1)
+in_append K us ws h = and_parts (all_in_range K us) (all_in_range K ws) (sym (list_all-append (in_range K) us ws) ∙ h)
 
 pub in_both : (K : ℕ) (us ws : List Word) → all_in_range K us ≡ true → all_in_range K ws ≡ true → all_in_range K (us ++ ws) ≡ true
-in_both K [] ws h k = k
-in_both K (u ∷ us) ws h k =
-    let a = and_parts (in_range K u) (all_in_range K us) h in and_from (in_range K u) (all_in_range K (us ++ ws)) a.0 (in_both K us ws a.1 k)
+in_both K us ws h k = list_all-append (in_range K) us ws ∙ and_from (all_in_range K us) (all_in_range K ws) h k
 
 prefix_in : (K : ℕ) (x : Prefix) (p : Rule) → rule_in_range K p ≡ true → rule_in_range K (prefix_rule x p) ≡ true
 prefix_in K Not p h = h

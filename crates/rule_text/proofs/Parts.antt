@@ -4,6 +4,7 @@ use Rattle.routing.specs.Rules.{Rule, both}
 use Rattle.tables.specs.declared.row.Operation.TheVariants.{And as AndRow, Or as OrRow}
 use Rattle.tables.specs.Tables.{coded}
 use Rattle.rule_text.specs.declared.fault.Fault.{Fault}
+use Rattle.rule_text.specs.declared.parse.Parser.{Parser}
 use Rattle.rule_text.specs.declared.reader.Reader.{Reader}
 use Rattle.rule_text.specs.declared.word.Word.{Word}
 use Rattle.rule_text.specs.declared.table.Table.{Table}
@@ -175,89 +176,89 @@ module _ (k : Quantifier) (n : ℕ) (a a₁ : Reader) (e : a.word ≡ Some (Rout
           )
 
 -- One more part behind `&`.
-pub joining_more : (n : ℕ) (a b b₁ b₂ : Reader) (t u u₁ u₂ : Option Table) (v r right r₂ : ℕ) → Joining n (parser a t) (parser b u) v r → Onward a b → b.word ≡ Some And
-    → Stepped b b₁ → Onward b b₁ → OneRead n (parser b₁ u) (parser b₂ u₁) (Ok right)
-    → rows_kept u₂ ≡ push_row (rows_kept u₁) (coded (AndRow r right)) → LastIs (rows_kept u₂) r₂ → Joining n (parser a t) (parser b₂ u₂) v r₂
-joining_more n a b b₁ b₂ t u u₁ u₂ v r right r₂ so on e st on₁ (g, ag, lt, reads) rows last t₀ f₀ ad₀ =
+pub joining_more : (n : ℕ) (a b d : Parser) (b₁ : Reader) (u : Option Table) (v r right s : ℕ) → Joining n a b v r → Onward a.reader b.reader
+    → b.reader.word ≡ Some And → Stepped b.reader b₁ → Onward b.reader b₁ → OneRead n (parser b₁ b.table) d (Ok right)
+    → rows_kept u ≡ push_row (rows_kept d.table) (coded (AndRow r right)) → LastIs (rows_kept u) s → Joining n a (parser d.reader u) v s
+joining_more n a b d b₁ u v r right s so on e st on₁ (g, ag, lt, reads) rows last t₀ f₀ ad₀ =
     let sofar = so t₀ f₀ ad₀ in
     let f = sofar.0 in
-    let ends = ends_same b b₁ on₁ ∙ ends_same a b on in (
+    let ends = ends_same b.reader b₁ on₁ ∙ ends_same a.reader b.reader on in (
       both f g,
-      added_and t₀ u u₁ u₂ f g r right r₂ sofar.1 ag rows last,
-      λ o K d.
-          sofar.2 o K d
-          ∙ passed (end_of a) b b₁ And (behind_part o f K) (before_part [] o (Some f) K) refl (record { was = e; step = st }) refl
+      added_and t₀ b.table d.table u f g r right s sofar.1 ag rows last,
+      λ o K m.
+          sofar.2 o K m
+          ∙ passed (end_of a.reader) b.reader b₁ And (behind_part o f K) (before_part [] o (Some f) K) refl (record { was = e; step = st }) refl
           ∙ ap (λ i. outcome i (unread b₁) (before_part [] o (Some f) K)) (sym ends)
-          ∙ reads [] o (Some f) K (omega (arith, d))
-          ∙ ap (λ i. outcome i (unread b₂) (behind_part o (both f g) K)) ends,
+          ∙ reads [] o (Some f) K (omega (arith, m))
+          ∙ ap (λ i. outcome i (unread d.reader) (behind_part o (both f g) K)) ends,
     )
 
 -- The first part of `both`, and what its loop came to.
-module _ (n : ℕ) (a a₀ b : Reader) (t t₀ u : Option Table) (v r : ℕ) (first : OneRead n (parser a t) (parser a₀ t₀) (Ok v)) (on : Onward a a₀) (so : Joining n (parser a₀ t₀) (parser b u) v r) where
+module _ (n : ℕ) (a a₀ b : Parser) (v r : ℕ) (first : OneRead n a a₀ (Ok v)) (on : Onward a.reader a₀.reader) (so : Joining n a₀ b v r) where
   both_read : (o : Option Rule) (K : Around) → depth K + n ≡ 32
-      → outcome (end_of a) (unread a) (before_part [] o None K) ≡ outcome (end_of a) (unread b) (behind_part o (so t first.0 first.1).0 K)
+      → outcome (end_of a.reader) (unread a.reader) (before_part [] o None K) ≡ outcome (end_of a.reader) (unread b.reader) (behind_part o (so a.table first.0 first.1).0 K)
   both_read o K d =
       first.3 [] o None K (omega (arith, d))
-      ∙ ap (λ i. outcome i (unread a₀) (behind_part o first.0 K)) (sym (ends_same a a₀ on))
-      ∙ (so t first.0 first.1).2 o K d
-      ∙ ap (λ i. outcome i (unread b) (behind_part o (so t first.0 first.1).0 K)) (ends_same a a₀ on)
+      ∙ ap (λ i. outcome i (unread a₀.reader) (behind_part o first.0 K)) (sym (ends_same a.reader a₀.reader on))
+      ∙ (so a.table first.0 first.1).2 o K d
+      ∙ ap (λ i. outcome i (unread b.reader) (behind_part o (so a.table first.0 first.1).0 K)) (ends_same a.reader a₀.reader on)
 
-  pub both_next_bad : (e : Fault) → b.word ≡ Some And → Fails b e → BothFails n a e
+  pub both_next_bad : (e : Fault) → b.reader.word ≡ Some And → Fails b.reader e → BothFails n a.reader e
   both_next_bad e w bad_next o K q =
       both_read o K q
-      ∙ leads_bad (end_of a) b And (behind_part o (so t first.0 first.1).0 K) (before_part [] o (Some (so t first.0 first.1).0) K) e w refl refl bad_next
+      ∙ leads_bad (end_of a.reader) b.reader And (behind_part o (so a.table first.0 first.1).0 K) (before_part [] o (Some (so a.table first.0 first.1).0) K) e w refl refl bad_next
 
-  pub both_part_bad : (b₁ : Reader) (e : Fault) → b.word ≡ Some And → Stepped b b₁ → Onward a b₁ → OneFails n b₁ e → BothFails n a e
+  pub both_part_bad : (b₁ : Reader) (e : Fault) → b.reader.word ≡ Some And → Stepped b.reader b₁ → Onward a.reader b₁ → OneFails n b₁ e → BothFails n a.reader e
   both_part_bad b₁ e w st on₁ part o K q =
       both_read o K q
-      ∙ passed (end_of a) b b₁ And (behind_part o (so t first.0 first.1).0 K) (before_part [] o (Some (so t first.0 first.1).0) K) refl (record { was = w; step = st }) refl
-      ∙ ap (λ i. outcome i (unread b₁) (before_part [] o (Some (so t first.0 first.1).0) K)) (sym (ends_same a b₁ on₁))
-      ∙ part [] o (Some (so t first.0 first.1).0) K (omega (arith, q))
+      ∙ passed (end_of a.reader) b.reader b₁ And (behind_part o (so a.table first.0 first.1).0 K) (before_part [] o (Some (so a.table first.0 first.1).0) K) refl (record { was = w; step = st }) refl
+      ∙ ap (λ i. outcome i (unread b₁) (before_part [] o (Some (so a.table first.0 first.1).0) K)) (sym (ends_same a.reader b₁ on₁))
+      ∙ part [] o (Some (so a.table first.0 first.1).0) K (omega (arith, q))
 
 -- One more operand behind `|`.
-pub choosing_more : (n : ℕ) (a b b₁ b₂ : Reader) (t u u₁ u₂ : Option Table) (v r right r₂ : ℕ) → Choosing n (parser a t) (parser b u) v r → Onward a b → b.word ≡ Some Or
-    → Stepped b b₁ → Onward b b₁ → BothRead n (parser b₁ u) (parser b₂ u₁) (Ok right)
-    → rows_kept u₂ ≡ push_row (rows_kept u₁) (coded (OrRow r right)) → LastIs (rows_kept u₂) r₂ → Choosing n (parser a t) (parser b₂ u₂) v r₂
-choosing_more n a b b₁ b₂ t u u₁ u₂ v r right r₂ so on e st on₁ (g, ag, lt, no_and, reads) rows last t₀ o₀ f₀ ad₀ =
+pub choosing_more : (n : ℕ) (a b d : Parser) (b₁ : Reader) (u : Option Table) (v r right s : ℕ) → Choosing n a b v r → Onward a.reader b.reader
+    → b.reader.word ≡ Some Or → Stepped b.reader b₁ → Onward b.reader b₁ → BothRead n (parser b₁ b.table) d (Ok right)
+    → rows_kept u ≡ push_row (rows_kept d.table) (coded (OrRow r right)) → LastIs (rows_kept u) s → Choosing n a (parser d.reader u) v s
+choosing_more n a b d b₁ u v r right s so on e st on₁ (g, ag, lt, no_and, reads) rows last t₀ o₀ f₀ ad₀ =
     let sofar = so t₀ o₀ f₀ ad₀ in
     let p = or_with sofar.0 sofar.1 in
-    let ends = ends_same b b₁ on₁ ∙ ends_same a b on in (
+    let ends = ends_same b.reader b₁ on₁ ∙ ends_same a.reader b.reader on in (
       Some p,
       g,
-      added_or t₀ u u₁ u₂ p g r right r₂ sofar.2 ag rows last,
-      λ K d.
-          sofar.3 K d
-          ∙ passed (end_of a) b b₁ Or (behind_part sofar.0 sofar.1 K) (before_part [] (Some p) None K) refl (record { was = e; step = st }) refl
+      added_or t₀ b.table d.table u p g r right s sofar.2 ag rows last,
+      λ K m.
+          sofar.3 K m
+          ∙ passed (end_of a.reader) b.reader b₁ Or (behind_part sofar.0 sofar.1 K) (before_part [] (Some p) None K) refl (record { was = e; step = st }) refl
           ∙ ap (λ i. outcome i (unread b₁) (before_part [] (Some p) None K)) (sym ends)
-          ∙ reads (Some p) K d
-          ∙ ap (λ i. outcome i (unread b₂) (behind_part (Some p) g K)) ends,
+          ∙ reads (Some p) K m
+          ∙ ap (λ i. outcome i (unread d.reader) (behind_part (Some p) g K)) ends,
     )
 
-module _ (n : ℕ) (a a₀ b : Reader) (t t₀ u : Option Table) (v r : ℕ) (first : BothRead n (parser a t) (parser a₀ t₀) (Ok v)) (on : Onward a a₀) (so : Choosing n (parser a₀ t₀) (parser b u) v r) where
+module _ (n : ℕ) (a a₀ b : Parser) (v r : ℕ) (first : BothRead n a a₀ (Ok v)) (on : Onward a.reader a₀.reader) (so : Choosing n a₀ b v r) where
   choice_read : (K : Around) → depth K + n ≡ 32
-      → outcome (end_of a) (unread a) (before_part [] None None K)
-      ≡ outcome (end_of a) (unread b) (behind_part (so t None first.0 first.1).0 (so t None first.0 first.1).1 K)
+      → outcome (end_of a.reader) (unread a.reader) (before_part [] None None K)
+      ≡ outcome (end_of a.reader) (unread b.reader) (behind_part (so a.table None first.0 first.1).0 (so a.table None first.0 first.1).1 K)
   choice_read K d =
       first.4 None K d
-      ∙ ap (λ i. outcome i (unread a₀) (behind_part None first.0 K)) (sym (ends_same a a₀ on))
-      ∙ (so t None first.0 first.1).3 K d
-      ∙ ap (λ i. outcome i (unread b) (behind_part (so t None first.0 first.1).0 (so t None first.0 first.1).1 K)) (ends_same a a₀ on)
+      ∙ ap (λ i. outcome i (unread a₀.reader) (behind_part None first.0 K)) (sym (ends_same a.reader a₀.reader on))
+      ∙ (so a.table None first.0 first.1).3 K d
+      ∙ ap (λ i. outcome i (unread b.reader) (behind_part (so a.table None first.0 first.1).0 (so a.table None first.0 first.1).1 K)) (ends_same a.reader a₀.reader on)
 
-  pub choice_done : a₀.start ≤ b.start → (b.word ≡ Some And → ⊥) → (b.word ≡ Some Or → ⊥) → ChoiceRead n (parser a t) (parser b u) (Ok r)
+  pub choice_done : a₀.reader.start ≤ b.reader.start → (b.reader.word ≡ Some And → ⊥) → (b.reader.word ≡ Some Or → ⊥) → ChoiceRead n a b (Ok r)
   choice_done le no_and no_or =
-      ((so t None first.0 first.1).0, (so t None first.0 first.1).1, (so t None first.0 first.1).2, omega (arith, first.2), no_and, no_or, choice_read)
+      ((so a.table None first.0 first.1).0, (so a.table None first.0 first.1).1, (so a.table None first.0 first.1).2, omega (arith, first.2), no_and, no_or, choice_read)
 
-  pub choice_next_bad : (e : Fault) → b.word ≡ Some Or → Fails b e → ChoiceFails n a e
+  pub choice_next_bad : (e : Fault) → b.reader.word ≡ Some Or → Fails b.reader e → ChoiceFails n a.reader e
   choice_next_bad e w bad_next K q =
       choice_read K q
-      ∙ leads_bad (end_of a) b Or (behind_part (so t None first.0 first.1).0 (so t None first.0 first.1).1 K)
-      (before_part [] (Some (or_with (so t None first.0 first.1).0 (so t None first.0 first.1).1)) None K) e w refl refl bad_next
+      ∙ leads_bad (end_of a.reader) b.reader Or (behind_part (so a.table None first.0 first.1).0 (so a.table None first.0 first.1).1 K)
+      (before_part [] (Some (or_with (so a.table None first.0 first.1).0 (so a.table None first.0 first.1).1)) None K) e w refl refl bad_next
 
-  pub choice_part_bad : (b₁ : Reader) (e : Fault) → b.word ≡ Some Or → Stepped b b₁ → Onward a b₁ → BothFails n b₁ e → ChoiceFails n a e
+  pub choice_part_bad : (b₁ : Reader) (e : Fault) → b.reader.word ≡ Some Or → Stepped b.reader b₁ → Onward a.reader b₁ → BothFails n b₁ e → ChoiceFails n a.reader e
   choice_part_bad b₁ e w st on₁ part K q =
-      let p = or_with (so t None first.0 first.1).0 (so t None first.0 first.1).1 in
+      let p = or_with (so a.table None first.0 first.1).0 (so a.table None first.0 first.1).1 in
       choice_read K q
-      ∙ passed (end_of a) b b₁ Or (behind_part (so t None first.0 first.1).0 (so t None first.0 first.1).1 K) (before_part [] (Some p) None K) refl
+      ∙ passed (end_of a.reader) b.reader b₁ Or (behind_part (so a.table None first.0 first.1).0 (so a.table None first.0 first.1).1 K) (before_part [] (Some p) None K) refl
       (record { was = w; step = st }) refl
-      ∙ ap (λ i. outcome i (unread b₁) (before_part [] (Some p) None K)) (sym (ends_same a b₁ on₁))
+      ∙ ap (λ i. outcome i (unread b₁) (before_part [] (Some p) None K)) (sym (ends_same a.reader b₁ on₁))
       ∙ part (Some p) K q

@@ -5,6 +5,7 @@ use Rattle.routing.specs.Rules.{Rule}
 use Rattle.rule_text.specs.declared.word.Word.{Word}
 use Rattle.rule_text.specs.Grammar.{IsRule, CanFollow}
 use Rattle.rule_text.specs.Descent.{State, next_state, levels_at, rule_read, item, item_of, items, outcome, moved, at_end, level_tested}
+use Rattle.std.proofs.lemmas.List.Sums.{fold-append}
 use Rattle.std.proofs.lemmas.Bool.{leb-true, leb-false, and_parts, and_cases, true≢false}
 use Rattle.rule_text.specs.declared.fault.Fault.{Fault}
 use Rattle.rule_text.specs.declared.fault.FaultKind.{FaultKind}
@@ -12,7 +13,7 @@ use Rattle.rule_text.specs.declared.fault.FaultKind.TheVariants.{TooManyRows}
 use Rattle.rule_text.specs.Faults.{fault}
 use Rattle.rule_text.specs.Words.{word_of, tested}
 use Rattle.rule_text.specs.Texts.{Placed, words_from}
-use Rattle.rule_text.specs.Levels.{Opened, behind, behind_all, level, has_level}
+use Rattle.rule_text.specs.Levels.{behind, behind_all, level, has_level}
 use Rattle.rule_text.specs.Rows.{rows_of}
 use Rattle.rule_text.specs.Reading.{Taking, refused, unfit, deep, taken, unfinished, crowded, fits, Reading, read}
 use Rattle.rule_text.proofs.Accepts.{accepts, onto, begin, accepted_as}
@@ -27,16 +28,12 @@ pub record Known (before : List Word) (s : State) : Type 0 where
 pub begin_known : Known [] begin
 begin_known = record { stands = refl; whole_rules = accepted_as; open_levels = refl }
 
-behind_more : (s : List Opened) (us : List Word) (w : Word) → behind_all s (us ++ (w ∷ [])) ≡ behind (behind_all s us) w
-behind_more s [] w = refl
-behind_more s (u ∷ us) w = behind_more (behind s u) us w
-
 pub known_more : (before : List Word) (s s' : State) (w : Word) → Known before s → next_state s w ≡ Some s' → Known (before ++ (w ∷ [])) s'
 known_more before s s' w k e = record {
   stands = subst (λ q. StandsAt q (before ++ (w ∷ []))) e (stands_more s w before k.stands);
   whole_rules = λ rest f d.
       ap (λ q. onto q (accepts rest)) (sym e) ∙ k.whole_rules (w ∷ rest) f (subst (λ v. IsRule v f) (append_assoc before (w ∷ []) rest) d);
-  open_levels = behind_more [] before w ∙ ap (λ q. behind q w) k.open_levels ∙ subst (λ q. LevelsAt q (behind (levels s) w)) e (levels_more s w);
+  open_levels = fold-append behind [] before (w ∷ []) ∙ ap (λ q. behind q w) k.open_levels ∙ subst (λ q. LevelsAt q (behind (levels s) w)) e (levels_more s w);
 }
 
 pub level_is : (before : List Word) (s : State) → Known before s → level before ≡ suc (levels_at s)

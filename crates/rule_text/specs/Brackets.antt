@@ -1,5 +1,6 @@
 -- Words that write a rule with every part in brackets: so the grammar has every rule.
 use Rattle.std.specs.Prelude.{ℕ, Bool, true, ◌&&◌, List, [], ◌∷◌, ◌++◌, nat_lt}
+use Rattle.std.specs.List.{list_all}
 use Rattle.routing.specs.Rules.{Rule, truth, mark, condition, non, both, either, ex, eu, eg, ef, ax, au, ag, af}
 use Rattle.rule_text.specs.declared.word.Prefix.TheVariants.{Not, Ex, Ax, Ef, Af, Eg, Ag}
 use Rattle.rule_text.specs.declared.word.Quantifier.TheVariants.{Exists, Forall}
@@ -9,8 +10,7 @@ use Rattle.rule_text.specs.Words.{in_range}
 
 -- Every number of the words is in range.
 abbrev pub all_in_range : ℕ → List Word → Bool
-all_in_range K [] = true
-all_in_range K (w ∷ ws) = in_range K w && all_in_range K ws
+all_in_range K ws = list_all (in_range K) ws
 
 -- The rule has marks up to 31 and conditions below K only.
 abbrev pub rule_in_range : ℕ → Rule → Bool

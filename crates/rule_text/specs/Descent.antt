@@ -1,5 +1,5 @@
 -- How the reader works through the words. Only contracts inside the crate cite this.
-use Rattle.std.specs.Prelude.{◌≡◌, ℕ, suc, ◌+◌, ◌<◌, ◌≤◌, Bool, true, false, cond, ◌&&◌, ◌⊎◌, List, [], ◌∷◌, ◌++◌, map, length, drop, Some, None, Ok, Err, Option, Result, ◌≢◌, nat_le, nat_lt}
+use Rattle.std.specs.Prelude.{fold, ◌≡◌, ℕ, suc, ◌+◌, ◌<◌, ◌≤◌, Bool, true, false, cond, ◌&&◌, ◌⊎◌, List, [], ◌∷◌, ◌++◌, map, length, drop, Some, None, Ok, Err, Option, Result, ◌≢◌, nat_le, nat_lt}
 use Rattle.std.specs.Option.{option_map}
 use Rattle.routing.specs.Rules.{Rule, truth, mark, condition, both, either}
 use Rattle.tables.specs.declared.row.Row.{Row}
@@ -193,8 +193,7 @@ push_row None row = None
 push_row (Some rows) row = cond (nat_lt (length rows) 32) (Some (rows ++ (row ∷ []))) None
 
 abbrev pub push_rows : Option (List Row) → List Row → Option (List Row)
-push_rows t [] = t
-push_rows t (row ∷ rows) = push_rows (push_row t row) rows
+push_rows t rows = fold push_row t rows
 
 -- Where rows are kept, r is the number of the last one.
 abbrev pub LastIs : Option (List Row) → ℕ → Type 0

@@ -1,5 +1,5 @@
 -- The level at which a word stands.
-use Rattle.std.specs.Prelude.{ℕ, suc, Bool, true, false, List, [], ◌∷◌, length}
+use Rattle.std.specs.Prelude.{fold, ℕ, suc, Bool, true, false, List, [], ◌∷◌, length}
 use Rattle.rule_text.specs.declared.word.Word.{Word}
 use Rattle.rule_text.specs.declared.word.Word.TheVariants.{Yes, Mark, Condition, Before, Routes, Until, And, Or, Open, Close, OpenSquare, CloseSquare}
 
@@ -36,8 +36,7 @@ behind s Or = s
 
 -- The open levels behind words.
 abbrev pub behind_all : List Opened → List Word → List Opened
-behind_all s [] = s
-behind_all s (w ∷ ws) = behind_all (behind s w) ws
+behind_all s ws = fold behind s ws
 
 -- The level of a word that follows these words.
 abbrev pub level : List Word → ℕ

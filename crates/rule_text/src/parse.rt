@@ -7,6 +7,7 @@ use crate::table::Table;
 use crate::word::Word;
 use tables::row::Operation;
 
+// What is left of a text, and the table that is made of it.
 #[derive(Drop)]
 pub(crate) struct Parser<'a> {
     pub(crate) reader: Reader<'a>,

@@ -1,5 +1,5 @@
 // A rule table as it is read from a text: room for 32 rows, of which the first ones are the table.
-ghost use Rattle.std.specs.Prelude.{◌≡◌, ◌<◌, ◌≤◌, ◌↔◌, [], ◌∷◌, ◌++◌, length, IfSome, IsSome};
+ghost use Rattle.std.specs.Prelude.{◌≡◌, ◌<◌, ◌≤◌, ◌↔◌, [], ◌∷◌, ◌++◌, length, IfNone, IfSome, IsSome};
 
 use tables::row::{Operation, Row};
 use tables::table::MOST_ROWS;
@@ -32,6 +32,7 @@ impl Table {
         ensures number { IfSome result (λ number. number ≡ length (table_rows self.old)) }
         ensures added { IfSome result
             (λ _. table_rows self.new ≡ table_rows self.old ++ (row ∷ [])) }
+        ensures kept { IfNone result (self.new ≡ self.old) }
     {
         if self.len >= MOST_ROWS {
             return None;

@@ -11,16 +11,14 @@ pub both-returns-in_err-advance-clause-reads : goal.both-returns-in_err-advance-
 both-returns-in_err-advance-clause-reads t c =
     left_with (BothRead c.args.levels c.args.self.now (parser c.advance.new.self c.loop-self.self.table)) c.from_residual-in_err-advance.result
     c.in_err-advance.field-0.0 c.from_residual-in_err-advance.ensures.1
-    (Parts.both_next_bad c.args.levels c.args.self.now.reader c.one.new.self.reader c.loop-self.self.reader c.args.self.now.table c.one.new.self.table
-    c.loop-self.self.table c.in_ok-left.left c.loop-self.left c.in_ok-left.ensures.reads c.one.ensures.on c.loop-self.invariant.2
+    (Parts.both_next_bad c.args.levels c.args.self.now c.one.new.self c.loop-self.self c.in_ok-left.left c.loop-self.left c.in_ok-left.ensures.reads c.one.ensures.on c.loop-self.invariant.2
     c.in_err-advance.field-0.0 (c.has.ensures.0 c.loop-self-test.true) c.in_err-advance.ensures.step)
 
 pub both-returns-in_err-right-clause-reads : goal.both-returns-in_err-right-clause-reads
 both-returns-in_err-right-clause-reads t c =
     left_with (BothRead c.args.levels c.args.self.now c.one-in-loop-self.new.self) c.from_residual-in_err-right.result c.in_err-right.field-0.0
     c.from_residual-in_err-right.ensures.1
-    (Parts.both_part_bad c.args.levels c.args.self.now.reader c.one.new.self.reader c.loop-self.self.reader c.args.self.now.table c.one.new.self.table
-    c.loop-self.self.table c.in_ok-left.left c.loop-self.left c.in_ok-left.ensures.reads c.one.ensures.on c.loop-self.invariant.2 c.advance.new.self
+    (Parts.both_part_bad c.args.levels c.args.self.now c.one.new.self c.loop-self.self c.in_ok-left.left c.loop-self.left c.in_ok-left.ensures.reads c.one.ensures.on c.loop-self.invariant.2 c.advance.new.self
     c.in_err-right.field-0.0 (c.has.ensures.0 c.loop-self-test.true) c.in_ok-advance.ensures.step
     (onward c.args.self.now.reader c.loop-self.self.reader c.advance.new.self
     (onward c.args.self.now.reader c.one.new.self.reader c.loop-self.self.reader c.one.ensures.on c.loop-self.invariant.0) c.advance.ensures.on)
@@ -37,8 +35,7 @@ both-loop-self-preserved t c = (
     ahead_of c.loop-self.self.reader c.advance.new.self And (c.has.ensures.0 c.loop-self-test.true)
         c.in_ok-advance.ensures.step,
   ),
-  Parts.joining_more c.args.levels c.one.new.self.reader c.loop-self.self.reader c.advance.new.self c.one-in-loop-self.new.self.reader
-      c.one.new.self.table c.loop-self.self.table c.one-in-loop-self.new.self.table c.emit-left.new.t
+  Parts.joining_more c.args.levels c.one.new.self c.loop-self.self c.one-in-loop-self.new.self c.advance.new.self c.emit-left.new.t
       c.in_ok-left.left c.loop-self.left c.in_ok-right.right c.emit-left.result
       c.loop-self.invariant.2 c.loop-self.invariant.0 (c.has.ensures.0 c.loop-self-test.true) c.in_ok-advance.ensures.step c.advance.ensures.on
       c.in_ok-right.ensures.reads
@@ -49,16 +46,14 @@ pub choice-returns-in_err-advance-clause-reads : goal.choice-returns-in_err-adva
 choice-returns-in_err-advance-clause-reads t c =
     left_with (ChoiceRead c.args.levels c.args.self.now (parser c.advance.new.self c.loop-self.self.table)) c.from_residual-in_err-advance.result
     c.in_err-advance.field-0.0 c.from_residual-in_err-advance.ensures.1
-    (Parts.choice_next_bad c.args.levels c.args.self.now.reader c.both.new.self.reader c.loop-self.self.reader c.args.self.now.table
-    c.both.new.self.table c.loop-self.self.table c.in_ok-left.left c.loop-self.left c.in_ok-left.ensures.reads c.both.ensures.on
+    (Parts.choice_next_bad c.args.levels c.args.self.now c.both.new.self c.loop-self.self c.in_ok-left.left c.loop-self.left c.in_ok-left.ensures.reads c.both.ensures.on
     c.loop-self.invariant.3 c.in_err-advance.field-0.0 (c.has.ensures.0 c.loop-self-test.true) c.in_err-advance.ensures.step)
 
 pub choice-returns-in_err-right-clause-reads : goal.choice-returns-in_err-right-clause-reads
 choice-returns-in_err-right-clause-reads t c =
     left_with (ChoiceRead c.args.levels c.args.self.now c.both-in-loop-self.new.self) c.from_residual-in_err-right.result c.in_err-right.field-0.0
     c.from_residual-in_err-right.ensures.1
-    (Parts.choice_part_bad c.args.levels c.args.self.now.reader c.both.new.self.reader c.loop-self.self.reader c.args.self.now.table
-    c.both.new.self.table c.loop-self.self.table c.in_ok-left.left c.loop-self.left c.in_ok-left.ensures.reads c.both.ensures.on
+    (Parts.choice_part_bad c.args.levels c.args.self.now c.both.new.self c.loop-self.self c.in_ok-left.left c.loop-self.left c.in_ok-left.ensures.reads c.both.ensures.on
     c.loop-self.invariant.3 c.advance.new.self c.in_err-right.field-0.0 (c.has.ensures.0 c.loop-self-test.true) c.in_ok-advance.ensures.step
     (onward c.args.self.now.reader c.loop-self.self.reader c.advance.new.self
     (onward c.args.self.now.reader c.both.new.self.reader c.loop-self.self.reader c.both.ensures.on c.loop-self.invariant.0) c.advance.ensures.on)
@@ -76,8 +71,7 @@ choice-loop-self-preserved t c = (
         c.in_ok-advance.ensures.step,
   ),
   c.in_ok-right.ensures.reads.3,
-  Parts.choosing_more c.args.levels c.both.new.self.reader c.loop-self.self.reader c.advance.new.self c.both-in-loop-self.new.self.reader
-      c.both.new.self.table c.loop-self.self.table c.both-in-loop-self.new.self.table c.emit-left.new.t
+  Parts.choosing_more c.args.levels c.both.new.self c.loop-self.self c.both-in-loop-self.new.self c.advance.new.self c.emit-left.new.t
       c.in_ok-left.left c.loop-self.left c.in_ok-right.right c.emit-left.result
       c.loop-self.invariant.3 c.loop-self.invariant.0 (c.has.ensures.0 c.loop-self-test.true) c.in_ok-advance.ensures.step c.advance.ensures.on
       c.in_ok-right.ensures.reads
@@ -86,8 +80,7 @@ choice-loop-self-preserved t c = (
 
 pub choice-returns-clause-reads : goal.choice-returns-clause-reads
 choice-returns-clause-reads t c =
-    Parts.choice_done c.args.levels c.args.self.now.reader c.both.new.self.reader c.loop-self.self.reader c.args.self.now.table c.both.new.self.table
-    c.loop-self.self.table c.in_ok-left.left c.loop-self.left c.in_ok-left.ensures.reads c.both.ensures.on c.loop-self.invariant.3
+    Parts.choice_done c.args.levels c.args.self.now c.both.new.self c.loop-self.self c.in_ok-left.left c.loop-self.left c.in_ok-left.ensures.reads c.both.ensures.on c.loop-self.invariant.3
     c.loop-self.invariant.1 c.loop-self.invariant.2 (λ e. cc (c.has.ensures.1 e))
 
 pub one-returns-in_err-enter-in-Yes-clause-reads : goal.one-returns-in_err-enter-in-Yes-clause-reads
