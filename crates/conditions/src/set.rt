@@ -23,7 +23,8 @@ pub trait ConditionSet: Copy {
 
     // The settings with condition k on; absent where k is no condition.
     fn with_condition(k: u32) -> Option<Self>
-        ensures { MatchOption result (count ≤ k) (λ s. (k < count) × ((a : ℕ) → holds s a ≡ (nat_lt a (2 ^ count) && bit a k))) };
+        ensures { MatchOption result (count ≤ k)
+            (λ s. (k < count) × ((a : ℕ) → holds s a ≡ (nat_lt a (2 ^ count) && bit a k))) };
 
     // The settings in both sets.
     fn intersection(&self, other: &Self) -> Self
@@ -47,7 +48,8 @@ pub trait ConditionSet: Copy {
 
     // The picked member; absent where the set is empty.
     fn pick(&self) -> Option<u32>
-        ensures { MatchOption result ((a : ℕ) → holds self.now a ≡ false) (Picked (λ a. holds self.now a ≡ true)) };
+        ensures { MatchOption result ((a : ℕ) → holds self.now a ≡ false)
+            (Picked (λ a. holds self.now a ≡ true)) };
 
     ghost few: { count ≤ 16 };
 

@@ -1,15 +1,10 @@
 -- The settings with a step into given sets, binding by binding.
-use Rattle.std.proofs.Common.{◌≡◌, ℕ, ◌+◌, ◌<◌, ◌≤◌, Bool, true, false, ◌⊎◌, List, length, Some, Decides, sym, refl, ap, ◌∙◌, subst, inl, inr, ⊎_elim, arith}
+use Rattle.std.proofs.Common.{◌≡◌, ℕ, ◌+◌, ◌<◌, ◌≤◌, Bool, true, false, ◌⊎◌, length, Some, Decides, sym, refl, ap, ◌∙◌, subst, inl, inr, ⊎_elim, arith}
 use Rattle.std.specs.List.{slice_get}
-use Rattle.std.proofs.lemmas.Option.{slice_get_past as nth_past}
-use Rattle.std.proofs.lemmas.Bool.{cases_eq, cases_lt, false≢true}
+use Rattle.std.proofs.lemmas.Option.{slice_get_within}
+use Rattle.std.proofs.lemmas.Bool.{cases_eq, false≢true}
 use Rattle.routing.specs.Net.{Link, Pos, Net, Step, places, settings}
 use Rattle.routing.specs.Routes.{SomeNext}
-
--- A number at which a list has something is below its length.
-pub nth_within : {X : Type 0} (xs : List X) (i : ℕ) (x : X) → slice_get xs i ≡ Some x → i < length xs
-nth_within xs i x e =
-    ⊎_elim (λ h. h) (λ h. let p = nth_past xs i h in let z : ◌≡◌ {A = ℕ} 0 1 = cc in absurd (omega arith)) (cases_lt i (length xs))
 
 module _ (N : Net) (X : Pos → Type 0) where
   -- Some step by one of the first n bindings leads into X.
@@ -62,5 +57,5 @@ module _ (N : Net) (X : Pos → Type 0) where
   pub into_all : (n : ℕ) → length N.bindings ≤ n → (b : Bool) (x : Pos) → Decides b (Into n x) → Decides b (SomeNext N X x)
   into_all n all b x d = (
     λ h. let w = d.0 h in (w.0, w.1, w.3),
-    λ w. d.1 (w.0, w.1, (let l = nth_within N.bindings w.1.number w.1.by w.1.listed in omega arith), w.2),
+    λ w. d.1 (w.0, w.1, (let l = slice_get_within N.bindings w.1.number w.1.by w.1.listed in omega arith), w.2),
   )

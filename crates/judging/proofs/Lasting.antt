@@ -5,7 +5,7 @@ use Rattle.std.proofs.lemmas.List.{length_push}
 use Rattle.routing.specs.Net.{Net, Pos, Within, Step, Rests as AtRest, places}
 use Rattle.routing.specs.Routes.{SomeNext}
 use Rattle.routing.specs.Bindings.{Fits}
-use Rattle.judging.proofs.Into.{nth_within}
+use Rattle.std.proofs.lemmas.Option.{slice_get_within}
 use Rattle.judging.specs.Chosen.{Chosen, entering, next_in, index_of, returns_or, rests_or, walk_always}
 use Rattle.judging.specs.declared.shown.Ending.TheVariants.{Rests, Returns}
 use Rattle.judging.specs.Shown.{Trail, ShowsAlways}
@@ -48,7 +48,7 @@ module _ (N : Net) (X : Pos → Bool) (P : Pos → Type 0) (start : Pos) where
     )
       where
         some : i < length seen
-        some = nth_within seen i x e
+        some = slice_get_within seen i x e
 
         first : slice_get seen 0 ≡ Some start
         first = go (nth_either seen x 0 start v.starts)

@@ -6,7 +6,6 @@ pub mod Fewest
 pub mod Hops
 pub mod Into
 pub mod Lasting
-pub mod Marks
 pub mod Nexts
 pub mod Operands
 pub mod Right

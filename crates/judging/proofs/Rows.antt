@@ -1,5 +1,5 @@
 -- One row, from the positions of its operands.
-use Rattle.std.proofs.Common.{◌≡◌, ℕ, ◌^◌, ◌<◌, Bool, true, false, ◌&&◌, ◌||◌, ◌↔◌, sym, refl, ap, subst}
+use Rattle.std.proofs.Common.{◌≡◌, ℕ, ◌^◌, ◌<◌, Bool, true, false, ◌&&◌, ◌↔◌, sym, refl, ap, subst}
 use Rattle.std.proofs.lemmas.Bool.Decides.{Decides-like}
 use Rattle.routing.specs.Net.{Pos, Net, Within}
 use Rattle.rounds.specs.Rounds.{Decided}
@@ -13,14 +13,6 @@ guard_true t b e = ap (λ u. u && b) e
 pub guard_behind : (b t : Bool) → t ≡ true → (b && t) ≡ b
 guard_behind true t e = e
 guard_behind false t e = refl
-
-pub or_same : (b : Bool) → (b || b) ≡ b
-or_same true = refl
-or_same false = refl
-
-pub and_same : (b : Bool) → (b && b) ≡ b
-and_same true = refl
-and_same false = refl
 
 -- The setting of a position, over K conditions.
 pub setting_below : (N : Net) (K : ℕ) → N.conditions ≡ K → (x : Pos) → Within N x → x.setting < 2 ^ K

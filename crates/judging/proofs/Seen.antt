@@ -1,5 +1,5 @@
 -- Positions that were seen, as records of a list.
-use Rattle.std.proofs.Common.{◌≡◌, ℕ, zero, suc, ◌<◌, true, false, List, [], ◌∷◌, ◌++◌, map, length, get_or, Some, None, refl, ap, ◌∙◌, arith}
+use Rattle.std.proofs.Common.{◌≡◌, ℕ, zero, suc, ◌<◌, true, false, List, [], ◌∷◌, map, length, get_or, Some, None, refl, ap, ◌∙◌, arith}
 use Rattle.std.specs.List.{slice_get}
 use Rattle.std.proofs.lemmas.Bool.{cond-true, cond-false}
 use Rattle.routing.specs.Net.{Pos}
@@ -13,18 +13,10 @@ nth_pos [] i d l = absurd (omega arith)
 nth_pos (x ∷ xs) zero d l = refl
 nth_pos (x ∷ xs) (suc i) d l = nth_pos xs i d (omega arith)
 
-pub length_pos : (xs : List RouteStep) → length (map as_pos xs) ≡ length xs
-length_pos [] = refl
-length_pos (x ∷ xs) = ap suc (length_pos xs)
-
 -- Records are their positions.
 pub steps_of : (xs : List RouteStep) → as_steps (map as_pos xs) ≡ xs
 steps_of [] = refl
 steps_of (x ∷ xs) = ap (λ (ys : List RouteStep). x ∷ ys) (steps_of xs)
-
-pub pos_append : (xs ys : List RouteStep) → map as_pos (xs ++ ys) ≡ map as_pos xs ++ map as_pos ys
-pos_append [] ys = refl
-pos_append (x ∷ xs) ys = ap (λ (zs : List Pos). as_pos x ∷ zs) (pos_append xs ys)
 
 -- The position stands at i, and nowhere before.
 pub index_found : (x : Pos) (xs : List Pos) (i : ℕ) (y : Pos) → slice_get xs i ≡ Some y → same_pos x y ≡ true

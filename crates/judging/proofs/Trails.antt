@@ -5,7 +5,7 @@ use Rattle.std.proofs.lemmas.Option.{slice_get-get_or}
 use Rattle.std.proofs.lemmas.Bool.{cases_Bool, cond-true, cond-false, and_parts, and_from, eqb-true, eq-eqb, true≢false}
 use Rattle.std.proofs.lemmas.Bool.Decides.{nat_tests}
 use Rattle.routing.specs.Net.{Net, Pos, Within, Step, places}
-use Rattle.judging.proofs.Into.{nth_within}
+use Rattle.std.proofs.lemmas.Option.{slice_get_within}
 use Rattle.judging.specs.Chosen.{pos, same_pos, one_later, index_of}
 
 -- Each position is joined to the next by a step.
@@ -56,7 +56,7 @@ joined_more N ps x f s i a b e g = go (nth_either ps x i a e) (nth_either ps x (
     go (inl h) (inr k) =
         let l : i ≡ length ps - 1 = omega (arith, k.0) in
         subst (Step N a) (sym k.1) (s a (subst (λ (j : ℕ). slice_get ps j ≡ Some a) l h))
-    go (inr h) (inl k) = absurd (omega (arith, h.0, nth_within ps (suc i) b k))
+    go (inr h) (inl k) = absurd (omega (arith, h.0, slice_get_within ps (suc i) b k))
     go (inr h) (inr k) = absurd (omega (arith, h.0, k.0))
 
 -- A position that is not in the list can be put at its end.

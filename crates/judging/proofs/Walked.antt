@@ -1,13 +1,13 @@
 -- A walk within a set, written to a list.
 use Rattle.std.proofs.Common.{◌≡◌, ℕ, zero, suc, ◌+◌, ◌<◌, ◌≤◌, Bool, List, [], ◌∷◌, ◌++◌, map, length, take, drop, set, Some, None, Option, sym, refl, ap, ◌∙◌, add-one, arith, length-take}
-use Rattle.std.proofs.lemmas.List.{map-append, drop-drop}
+use Rattle.std.proofs.lemmas.List.{length-map, map-append, drop-drop}
 use Rattle.routing.specs.Net.{Net, Pos}
 use Rattle.judging.specs.declared.shown.Ending.{Ending}
 use Rattle.judging.specs.declared.shown.Ending.TheVariants.{Rests, Returns}
 use Rattle.judging.specs.declared.shown.RouteStep.{RouteStep}
 use Rattle.judging.specs.Chosen.{Chosen, index_of, returns_or, rests_or, next_in, walk_always}
 use Rattle.judging.specs.Steps.{as_pos, as_step, as_steps, as_next, Written}
-use Rattle.judging.proofs.Seen.{length_pos, steps_of}
+use Rattle.judging.proofs.Seen.{steps_of}
 
 -- One record more at the front.
 pub take_set : {X : Type 0} (xs : List X) (k : ℕ) (v : X) → k < length xs → take (k + 1) (set xs k v) ≡ take k xs ++ (v ∷ [])
@@ -26,7 +26,7 @@ drop_more xs ys k e = sym (drop-drop 1 k xs) ∙ ap (drop 1) e ∙ drop-drop 1 k
 pub written_front : (c : Chosen) (before after : List RouteStep) (k : ℕ) (e : Ending) → k ≤ length after
     → c ≡ record { positions = map as_pos (take k after); ending = e } → drop k after ≡ drop k before → Written c before after (record { count = k; ending = e })
 written_front c before after k e fits is rest = record {
-  counted = sym (ap (λ (d : Chosen). length d.positions) is ∙ length_pos (take k after) ∙ short);
+  counted = sym (ap (λ (d : Chosen). length d.positions) is ∙ length-map (take k after) as_pos ∙ short);
   ended = sym (ap (λ (d : Chosen). d.ending) is);
   front = sym (ap (λ (d : Chosen). as_steps d.positions) is ∙ steps_of (take k after));
   rest = rest;

@@ -38,6 +38,7 @@ pub(crate) fn walk_within<N: Network>(
 {
     let n = net.places();
     let mut at = start;
+    // By number, since those before it are looked through, and it is written, in one list.
     for count in 0..n + 1 {
         if let Some(i) = find_step(&steps[0..count], at) {
             return Shown {

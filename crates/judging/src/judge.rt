@@ -46,7 +46,8 @@ pub fn judge<N: Network>(
 ) -> Result<usize, Refusal>
     ensures refusal { result_err result
         ≡ judge_refusal (N.meaning net.now) table.now (length main.old) (length spare.old) }
-    ensures judged { IfOk result (Judged N.Set.ConditionSet.holds (N.meaning net.now) table.now main.old main.new) }
+    ensures judged { IfOk result
+        (Judged N.Set.ConditionSet.holds (N.meaning net.now) table.now main.old main.new) }
     ensures main { OnErr result (main.new ≡ main.old) }
     ensures spare { OnErr result (spare.new ≡ spare.old) }
 {

@@ -21,6 +21,7 @@ pub(crate) fn first_entry<N: Network, F: Fn(usize) -> Option<u32>>(
     ensures { (enter : ℕ → Option Pos) → Gives (places (N.meaning net.now)) (F.post entry) enter
         → result ≡ as_next (first_link enter (as_pos at) (N.meaning net.now).bindings) }
 {
+    // By number, as a network answers its bindings.
     for i in 0..net.bindings() {
         if let Some(b) = net.binding(i) {
             if b.from as usize == at.place && b.set.contains(at.setting) {

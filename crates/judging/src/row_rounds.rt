@@ -39,6 +39,7 @@ pub(crate) fn steps_into<N: Network>(net: &N, sets: &[N::Set], out: &mut [N::Set
         (SomeNext (N.meaning net.now) (Is (covers N.Set.ConditionSet.holds sets.now))) }
 {
     fill(out, N::Set::none());
+    // By number, as a network answers its bindings.
     for i in 0..net.bindings() {
         if let Some(b) = net.binding(i) {
             forward(&b, sets, out);
@@ -109,7 +110,8 @@ pub(crate) fn always_rounds<N: Network>(
     requires part { PerPlace (N.meaning net.now) part.old }
     requires rests { PerPlace (N.meaning net.now) rests.now }
     requires into { PerPlace (N.meaning net.now) into.old }
-    requires rested { Decided (N.meaning net.now) (covers N.Set.ConditionSet.holds rests.now) (Rests (N.meaning net.now)) }
+    requires rested { Decided (N.meaning net.now)
+        (covers N.Set.ConditionSet.holds rests.now) (Rests (N.meaning net.now)) }
     ensures few { result ≤ places (N.meaning net.now) }
     ensures least { LeastStable (N.meaning net.now)
         (Kept (N.meaning net.now) (Is (covers N.Set.ConditionSet.holds part.old))) result }

@@ -122,7 +122,8 @@ fn part_of<S: ConditionSet>(main: &[S], row: usize, places: usize) -> &[S]
 pub(crate) fn holds_at<N: Network>(net: &N, main: &[N::Set], row: usize, at: RouteStep) -> bool
     requires room { row * places (N.meaning net.now) + places (N.meaning net.now) ≤ length main.now }
     requires inside { at.place < places (N.meaning net.now) }
-    ensures { result ≡ covers N.Set.ConditionSet.holds (row_part (places (N.meaning net.now)) row main.now) (as_pos at) }
+    ensures { result
+        ≡ covers N.Set.ConditionSet.holds (row_part (places (N.meaning net.now)) row main.now) (as_pos at) }
 {
     let part = part_of(main, row, net.places());
     let set = part[at.place];

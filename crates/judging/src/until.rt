@@ -47,6 +47,7 @@ pub(crate) fn walk_down<N: Network>(
         steps.old steps.new result }
 {
     let mut at = start;
+    // By number, since nothing is known of elements that an iterator over a part of a list lends for writing.
     for count in 0..hops {
         steps[count] = at;
         match nearest(net, notes, hops - count - 1, at) {

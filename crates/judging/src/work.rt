@@ -22,6 +22,7 @@ fn write_mark<N: Network>(net: &N, k: u8, part: &mut [N::Set])
         ≡ (bit (slice_index (N.meaning net.now).marks x.place) k && nat_lt x.setting (2 ^ N.Set.ConditionSet.count)) }
 {
     let (all, none) = (N::Set::all(), N::Set::none());
+    // By number, as a network answers the marks of a place.
     for place in 0..part.len() {
         part[place] = if has_mark(net, place, k) { all } else { none };
     }
@@ -42,7 +43,8 @@ fn write_condition<S: ConditionSet>(part: &mut [S], k: u8)
 fn write_rests<N: Network>(net: &N, part: &mut [N::Set], out: &mut [N::Set])
     requires part { PerPlace (N.meaning net.now) part.old }
     requires out { PerPlace (N.meaning net.now) out.old }
-    ensures { Decided (N.meaning net.now) (covers N.Set.ConditionSet.holds out.new) (Rests (N.meaning net.now)) }
+    ensures { Decided (N.meaning net.now)
+        (covers N.Set.ConditionSet.holds out.new) (Rests (N.meaning net.now)) }
 {
     fill(part, N::Set::all());
     steps_into(net, part, out);
@@ -155,7 +157,8 @@ pub(crate) fn judge_row<N: Network>(
     requires room { row * places (N.meaning net.now) + places (N.meaning net.now) ≤ length main.old }
     requires halves { 2 * places (N.meaning net.now) ≤ length spare.old }
     ensures few { result ≤ places (N.meaning net.now) }
-    ensures before { take (row * places (N.meaning net.now)) main.new ≡ take (row * places (N.meaning net.now)) main.old }
+    ensures before { take (row * places (N.meaning net.now)) main.new
+        ≡ take (row * places (N.meaning net.now)) main.old }
     ensures behind { drop (row * places (N.meaning net.now) + places (N.meaning net.now)) main.new
         ≡ drop (row * places (N.meaning net.now) + places (N.meaning net.now)) main.old }
     ensures written { Decided (N.meaning net.now)

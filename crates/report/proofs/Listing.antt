@@ -1,5 +1,5 @@
 -- The lines of rules, one behind the other.
-use Rattle.std.proofs.Common.{◌≡◌, ℕ, zero, suc, ◌+◌, ◌*◌, ◌<◌, ◌≤◌, List, [], ◌∷◌, ◌++◌, length, take, Some, Option, sym, refl, ap, ◌∙◌, subst, append_assoc, append-nil, add-one, arith}
+use Rattle.std.proofs.Common.{◌≡◌, ℕ, zero, suc, ◌+◌, ◌*◌, ◌<◌, ◌≤◌, List, [], ◌∷◌, ◌++◌, length, take, Some, Option, sym, refl, ap, ◌∙◌, subst, append_assoc, append-nil, add-one, arith, length-append}
 use Rattle.std.specs.List.{slice_get}
 use Rattle.std.proofs.lemmas.List.{take_all}
 use Rattle.routing.specs.Net.{Net}
@@ -38,17 +38,17 @@ lines_more N i (suc n) k (u ∷ us) t out line at here before more = (
 -- The report has the lines of the first n rules of the plan, and the fault that it had.
 pub record Printed (p : Plan) (was : Option PlanFault) (n : ℕ) (r : Report) : Type 0 where
   pub lines : RuleLines (plan_net p) 0 (take n p.texts) (report_text r)
-  pub short : r.len ≤ 62 * n
+  pub short : length (report_text r) ≤ 64 * n
   pub fault : r.fault ≡ was
 
-pub printed_more : (p : Plan) (was : Option PlanFault) (n : ℕ) (before after : Report) (t line : List ℕ) → n < 8 → slice_get p.texts n ≡ Some t → length line ≤ 62
+pub printed_more : (p : Plan) (was : Option PlanFault) (n : ℕ) (before after : Report) (t line : List ℕ) → n < 8 → slice_get p.texts n ≡ Some t → length line ≤ 64
     → Adds before line after → RuleLine (plan_net p) n t line → Printed p was n before → Printed p was (n + 1) after
 printed_more p was n before after t line few here short adds more so_far =
     let added : Added before line after = adds.added (omega arith) in
     let lines = lines_more (plan_net p) 0 n n p.texts t (report_text before) line (omega arith) here so_far.lines more in
     record {
       lines = rw add-one (subst (RuleLines (plan_net p) 0 (take (suc n) p.texts)) (sym added.text) lines);
-      short = omega (arith, added.len);
+      short = omega (arith, simp length-append at (ap length added.text));
       fault = added.fault ∙ so_far.fault;
     }
 
@@ -58,8 +58,8 @@ printed_all p was n r all printed =
     subst (λ (texts : List (List ℕ)). RuleLines (plan_net p) 0 texts (report_text r)) (take_all n p.texts all) printed.lines
 
 -- No rule is printed yet.
-pub printed_none : (p : Plan) (r : Report) → r.len ≡ 0 → Printed p r.fault 0 r
-printed_none p r fresh = record { lines = ap (λ (n : ℕ). take n r.bytes) fresh; short = omega arith; fault = refl }
+pub printed_none : (p : Plan) (was : Option PlanFault) (r : Report) → report_text r ≡ [] → r.fault ≡ was → Printed p was 0 r
+printed_none p was r fresh fault = record { lines = fresh; short = omega (arith, ap length fresh); fault = fault }
 
 -- The line of one more rule of the plan is added.
 pub printed_rule : (p : Plan) (was : Option PlanFault) (n : ℕ) (before after : Report) (t : Table) → n < 8 → TableOf p n t

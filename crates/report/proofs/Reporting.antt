@@ -1,10 +1,8 @@
 -- The report of a file, from what opening the file and adding its lines come to.
-use Rattle.std.proofs.Common.{◌≡◌, ℕ, List, ◌++◌, length, Some, None, Ok, Err, Option, sym, ap, ◌∙◌, subst, inl, inr, append-nil, arith}
+use Rattle.std.proofs.Common.{◌≡◌, ℕ, List, ◌++◌, length, Some, None, Ok, Err, sym, ap, ◌∙◌, subst, inl, inr, append-nil, arith}
 use Rattle.std.proofs.lemmas.List.{nil_from_length}
 use Rattle.plan.specs.declared.fault.PlanFault.{PlanFault}
-use Rattle.plan.specs.declared.file.PlanFile.{PlanFile}
 use Rattle.plan.specs.Contents.{plan_net}
-use Rattle.plan.specs.Files.{file_plan, OpenedPlan}
 use Rattle.plan.specs.Format.{Plan}
 use Rattle.plan.specs.Reading.{PlanRead}
 use Rattle.plan.proofs.Claimed.{one_answer}
@@ -40,14 +38,6 @@ planned_report file r p read lines fault = record {
         absurd (omega arith),
   );
 }
-
--- What opening says, by whether there is a fault.
-pub opened_plan : (file : List ℕ) (f : PlanFile) (fault : Option PlanFault) → OpenedPlan file f fault → fault ≡ None → PlanRead file (Ok (file_plan f))
-opened_plan file f fault opened none = (subst (OpenedPlan file f) none opened).1
-
-pub opened_refused : (file : List ℕ) (f : PlanFile) (fault : Option PlanFault) (e : PlanFault) → OpenedPlan file f fault → fault ≡ Some e
-    → PlanRead file (Err e)
-opened_refused file f fault e opened some = (subst (OpenedPlan file f) some opened).1
 
 -- Nothing lies behind the front.
 pub front_alone : (front rest : List ℕ) (r : Report) → length rest ≡ 0 → ReportOf front r → ReportOf (front ++ rest) r

@@ -1,5 +1,5 @@
 -- Reports as texts, and what is added to them.
-use Rattle.std.specs.Prelude.{◌≡◌, ℕ, ◌+◌, ◌<◌, ◌≤◌, ◌⊎◌, ◌↔◌, List, ◌++◌, length, take, Some, None, Err, Option}
+use Rattle.std.specs.Prelude.{◌≡◌, ℕ, ◌+◌, ◌<◌, ◌≤◌, ◌⊎◌, ◌↔◌, List, ◌++◌, length, Some, None, Err, Option}
 use Rattle.plan.specs.declared.fault.PlanFault.{PlanFault}
 use Rattle.plan.specs.Reading.{LeftOpen, PlanRead}
 use Rattle.report.specs.declared.outcome.Report.{Report}
@@ -7,17 +7,16 @@ use Rattle.report.specs.Lines.{Reported}
 
 -- The bytes to print.
 abbrev pub report_text : Report → List ℕ
-report_text r = take r.len r.bytes
+report_text r = r.bytes.items
 
 -- The bytes are added behind the text.
 pub record Added (before : Report) (bytes : List ℕ) (after : Report) : Type 0 where
   pub text : report_text after ≡ report_text before ++ bytes
-  pub len : after.len ≡ before.len + length bytes
   pub fault : after.fault ≡ before.fault
 
 -- They are, if there is room for them.
 pub record Adds (before : Report) (bytes : List ℕ) (after : Report) : Type 0 where
-  pub added : before.len + length bytes ≤ 512 → Added before bytes after
+  pub added : length (report_text before) + length bytes ≤ 512 → Added before bytes after
 
 -- The report of a file: what is printed of it, and the fault that it is refused with, exactly where it is refused.
 pub record ReportOf (file : List ℕ) (r : Report) : Type 0 where

@@ -19,6 +19,6 @@ pub record Tabled (t : List ℕ) (rows : List Row) : Type 0 where
 -- A line is added, if there is room: the line of rule i, for each text that has this table.
 pub record LineAdded (N : Net) (i : ℕ) (rows : List Row) (before after : Report) : Type 0 where
   pub line : List ℕ
-  pub short : length line ≤ 62
+  pub short : length line ≤ 64
   pub adds : Adds before line after
   pub right : (t : List ℕ) → Tabled t rows → RuleLine N i t line

@@ -11,54 +11,32 @@ use crate::rule::{MAIN_ROOM, SPARE_ROOM, add_rule};
 use conditions::word::Word;
 use plan::fault::PlanFault;
 use plan::file::PlanFile;
-use plan::file::open::OpenedFile;
 use plan::oversize::oversize_fault;
-
-// The room of a report: for eight lines of at most 62 bytes, or a refusal of at most 71.
-const ROOM: usize = 512;
 
 // The report of a refusal.
 fn refusal_report(fault: PlanFault) -> Report
     ensures text { report_text result ≡ refused_line fault }
     ensures fault { result.fault ≡ Some fault }
 {
-    let mut report = Report {
-        bytes: [0; ROOM],
-        len: 0,
-        fault: Some(fault),
-    };
+    let mut report = Report::new(Some(fault));
     add_refusal(&mut report, fault);
     report
 }
 
-// Adds the lines of the rules of a plan, in order.
-fn add_rules(plan: &PlanFile, report: &mut Report)
-    requires few { length (file_plan plan.now).texts ≤ 8 }
-    requires fresh { report.old.len ≡ 0 }
-    ensures lines { RuleLines (plan_net (file_plan plan.now)) 0 (file_plan plan.now).texts (report_text report.new) }
-    ensures fault { report.new.fault ≡ report.old.fault }
+// The report of a plan: the lines of its rules, in order.
+fn plan_report(plan: &PlanFile) -> Report
+    requires { length (file_plan plan.now).texts ≤ 8 }
+    ensures lines { RuleLines (plan_net (file_plan plan.now)) 0 (file_plan plan.now).texts (report_text result) }
+    ensures fault { result.fault ≡ None }
 {
+    let mut report = Report::new(None);
     let mut main = [Word(0); MAIN_ROOM];
     let mut spare = [Word(0); SPARE_ROOM];
     for rule in 0..plan.rules() {
         if let Some(table) = plan.table(rule) {
-            add_rule(plan, &table, rule, &mut main, &mut spare, report);
+            add_rule(plan, &table, rule as u8, &mut main, &mut spare, &mut report);
         }
     }
-}
-
-// The report of a plan.
-fn plan_report(plan: &PlanFile) -> Report
-    requires few { length (file_plan plan.now).texts ≤ 8 }
-    ensures lines { RuleLines (plan_net (file_plan plan.now)) 0 (file_plan plan.now).texts (report_text result) }
-    ensures fault { result.fault ≡ None }
-{
-    let mut report = Report {
-        bytes: [0; ROOM],
-        len: 0,
-        fault: None,
-    };
-    add_rules(plan, &mut report);
     report
 }
 
@@ -66,10 +44,9 @@ fn plan_report(plan: &PlanFile) -> Report
 pub fn report(bytes: &[u8]) -> Report
     ensures { ReportOf bytes.now result }
 {
-    let OpenedFile { plan, fault } = PlanFile::open(bytes);
-    match fault {
-        Some(fault) => refusal_report(fault),
-        None => plan_report(&plan),
+    match PlanFile::open(bytes) {
+        Ok(plan) => plan_report(&plan),
+        Err(fault) => refusal_report(fault),
     }
 }
 
@@ -81,8 +58,6 @@ pub fn report_front(front: &[u8], behind: usize) -> Option<Report>
     if behind == 0 {
         return Some(report(front));
     }
-    match oversize_fault(front, behind) {
-        Some(fault) => Some(refusal_report(PlanFault::InFile(fault))),
-        None => None,
-    }
+    let fault = oversize_fault(front, behind)?;
+    Some(refusal_report(fault.into()))
 }

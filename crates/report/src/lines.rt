@@ -1,65 +1,42 @@
-// Adding lines to a report. What does not fit is left out.
-ghost use Rattle.std.specs.Prelude.{◌<◌, ◌≤◌, length, decimal};
+// Adding lines to a report.
+ghost use Rattle.std.specs.Prelude.{◌≤◌, length};
 ghost use Rattle.report.specs.Lines.{breaks_line, fault_place, holds_line, refused_line, verdict_line};
 ghost use Rattle.report.specs.Outcomes.{Adds};
 
 use crate::outcome::Report;
-use output::{put, put_decimal};
 use plan::fault::PlanFault;
 use verdicts::verdict::{Judgement, Verdict};
 
-// Adds bytes.
-fn add(report: &mut Report, bytes: &[u8])
-    ensures { Adds report.old bytes.now report.new }
-{
-    if let Some(next) = put(&mut report.bytes, report.len, bytes) {
-        report.len = next;
-    }
-}
-
-// Adds a number in decimal.
-fn add_number(report: &mut Report, n: usize)
-    ensures adds { Adds report.old (decimal n) report.new }
-    ensures short { length (decimal n) ≤ 20 }
-{
-    if let Some(next) = put_decimal(&mut report.bytes, report.len, n) {
-        report.len = next;
-    }
-}
-
 // Adds the line of a rule that holds.
-fn add_holds(report: &mut Report, rule: usize, rounds: usize)
-    requires digit { rule < 10 }
+fn add_holds(report: &mut Report, rule: u8, rounds: usize)
     ensures adds { Adds report.old (holds_line rule rounds) report.new }
-    ensures short { length (holds_line rule rounds) ≤ 62 }
+    ensures short { length (holds_line rule rounds) ≤ 64 }
 {
-    add_number(report, rule);
-    add(report, b" holds ");
-    add_number(report, rounds);
-    add(report, b"\n");
+    report.add_number(rule);
+    report.add(b" holds ");
+    report.add_number(rounds);
+    report.add(b"\n");
 }
 
 // Adds the line of a rule that breaks.
-fn add_breaks(report: &mut Report, rule: usize, place: usize, setting: u32, rounds: usize)
-    requires digit { rule < 10 }
+fn add_breaks(report: &mut Report, rule: u8, place: usize, setting: u32, rounds: usize)
     ensures adds { Adds report.old (breaks_line rule place setting rounds) report.new }
-    ensures short { length (breaks_line rule place setting rounds) ≤ 62 }
+    ensures short { length (breaks_line rule place setting rounds) ≤ 64 }
 {
-    add_number(report, rule);
-    add(report, b" breaks ");
-    add_number(report, place);
-    add(report, b" ");
-    add_number(report, setting as usize);
-    add(report, b" ");
-    add_number(report, rounds);
-    add(report, b"\n");
+    report.add_number(rule);
+    report.add(b" breaks ");
+    report.add_number(place);
+    report.add(b" ");
+    report.add_number(setting);
+    report.add(b" ");
+    report.add_number(rounds);
+    report.add(b"\n");
 }
 
 // Adds the line of a rule.
-pub(crate) fn add_verdict(report: &mut Report, rule: usize, judgement: Judgement)
-    requires digit { rule < 10 }
+pub(crate) fn add_verdict(report: &mut Report, rule: u8, judgement: Judgement)
     ensures adds { Adds report.old (verdict_line rule judgement.verdict judgement.rounds) report.new }
-    ensures short { length (verdict_line rule judgement.verdict judgement.rounds) ≤ 62 }
+    ensures short { length (verdict_line rule judgement.verdict judgement.rounds) ≤ 64 }
 {
     match judgement.verdict {
         Verdict::Holds => add_holds(report, rule, judgement.rounds),
@@ -76,13 +53,13 @@ fn add_fault_place(report: &mut Report, fault: PlanFault)
 {
     match fault {
         PlanFault::InFile(f) => {
-            add(report, b"- ");
-            add_number(report, f.byte);
+            report.add(b"- ");
+            report.add_number(f.byte);
         }
         PlanFault::InText(rule, f) => {
-            add_number(report, rule);
-            add(report, b" ");
-            add_number(report, f.byte);
+            report.add_number(rule);
+            report.add(b" ");
+            report.add_number(f.byte);
         }
     }
 }
@@ -90,11 +67,11 @@ fn add_fault_place(report: &mut Report, fault: PlanFault)
 // Adds the line of a refusal.
 pub(crate) fn add_refusal(report: &mut Report, fault: PlanFault)
     ensures adds { Adds report.old (refused_line fault) report.new }
-    ensures short { length (refused_line fault) ≤ 71 }
+    ensures short { length (refused_line fault) ≤ 54 }
 {
-    add(report, b"refused ");
-    add_number(report, fault.number() as usize);
-    add(report, b" ");
+    report.add(b"refused ");
+    report.add_number(fault.number());
+    report.add(b" ");
     add_fault_place(report, fault);
-    add(report, b"\n");
+    report.add(b"\n");
 }

@@ -1,5 +1,5 @@
 // Judging one rule of a plan.
-ghost use Rattle.std.specs.Prelude.{◌≡◌, ◌<◌, ◌≤◌, true, length};
+ghost use Rattle.std.specs.Prelude.{◌≡◌, ◌≤◌, true, length};
 ghost use Rattle.tables.specs.Tables.{accepted};
 ghost use Rattle.rule_text.specs.Reading.{table_rows};
 ghost use Rattle.report.specs.Rules.{LineAdded};
@@ -19,14 +19,14 @@ pub(crate) const SPARE_ROOM: usize = 512;
 pub(crate) fn add_rule<N: Network>(
     net: &N,
     table: &Table,
-    rule: usize,
+    rule: u8,
     main: &mut [N::Set],
     spare: &mut [N::Set],
     report: &mut Report,
 )
-    requires digit { rule < 10 }
     requires taken { accepted (N.meaning net.now).conditions (table_rows table.now) ≡ true }
-    requires room { (8192 ≤ length main.old) × (512 ≤ length spare.old) }
+    requires main_room { 8192 ≤ length main.old }
+    requires spare_room { 512 ≤ length spare.old }
     ensures { LineAdded (N.meaning net.now) rule (table_rows table.now) report.old report.new }
 {
     if let Ok(judgement) = judge_entries(net, table.rows(), main, spare) {

@@ -36,8 +36,10 @@ pub trait Network {
 
     // The binding at a number; absent beyond the last binding. Its ends are places.
     fn binding(&self, number: usize) -> Option<Binding<Self::Set>>
-        ensures value { MatchOption result (length (meaning self.now).bindings ≤ number) (λ b. slice_get (meaning self.now).bindings number ≡ Some (linked Self.Set.ConditionSet.holds b)) }
-        ensures ends { IfSome result (λ b. Inside (places (meaning self.now)) (linked Self.Set.ConditionSet.holds b)) };
+        ensures value { MatchOption result (length (meaning self.now).bindings ≤ number)
+            (λ b. slice_get (meaning self.now).bindings number ≡ Some (linked Self.Set.ConditionSet.holds b)) }
+        ensures ends { IfSome result
+            (λ b. Inside (places (meaning self.now)) (linked Self.Set.ConditionSet.holds b)) };
 
     // The settings of a position are those that the sets are over.
     ghost over: { (n : Self) → (meaning n).conditions ≡ Self.Set.ConditionSet.count };

@@ -16,7 +16,7 @@ pub struct SiteTable<'a, S> {
     ghost ends: { all_inside (length marks.now) records.now ≡ true },
 }
 
-// A table of any sets can be copied. A derive would ask the sets for it.
+// A table of any sets can be copied. A derive would ask the sets for it, and one that does not is refused over ghost fields.
 impl<'a, S> Clone for SiteTable<'a, S> {
     ghost is_clone = { λ x y. y ≡ x };
 

@@ -1,5 +1,5 @@
 -- What the public contracts claim.
-use Rattle.std.proofs.Common.{◌≡◌, ℕ, ◌<◌, ◌≤◌, Bool, true, false, cond, ◌⊎◌, ◌↔◌, List, [], ◌∷◌, ◌++◌, length, IfOk, Some, None, Ok, Err, Option, Result, sym, refl, ap, ◌∙◌, subst, inl, inr, arith}
+use Rattle.std.proofs.Common.{◌≡◌, ℕ, ◌<◌, ◌≤◌, Bool, true, false, cond, ◌⊎◌, ◌↔◌, List, [], ◌∷◌, ◌++◌, length, IfOk, Some, None, Ok, Err, Option, Result, sym, refl, ap, ◌∙◌, subst, inl, inr}
 use Rattle.std.proofs.lemmas.List.{append_assoc, append-nil}
 use Rattle.std.proofs.lemmas.Bool.{and_from, and_parts, cases_lt, cond-true}
 use Rattle.routing.specs.Rules.{Rule, Means}
@@ -59,12 +59,12 @@ decided K text = go (cases_lt 200 (length text))
     go (inr h) = by _ (reading_of K text h)
 
 tested_word : (K : ℕ) (o : Option Word) (w : Word) → tested K o ≡ Ok w → o ≡ Some w
-tested_word K None w e = let z : ◌≡◌ {A = ℕ} 0 1 = cc in absurd (omega arith)
+tested_word K None w e = cc
 tested_word K (Some v) w e = go (in_range K v) e
   where
     go : (b : Bool) → cond b (Ok v) (Err OutOfRange) ≡ Ok w → Some v ≡ Some w
     go true q = let same : v ≡ w = cc in ap Some same
-    go false q = let z : ◌≡◌ {A = ℕ} 0 1 = cc in absurd (omega arith)
+    go false q = cc
 
 -- The words behind those taken, of a rule that is read.
 abbrev Rest : ℕ → List Word → List Placed → Result Rule Fault → Type 0

@@ -30,7 +30,7 @@ push_some (w ∷ ws) rows us e = go (ltb (length rows) 32) (push_some ws (rows +
     go : (b : Bool) → (Some us ≡ push_rows (Some (rows ++ (w ∷ []))) ws → us ≡ (rows ++ (w ∷ [])) ++ ws)
         → Some us ≡ push_rows (cond b (Some (rows ++ (w ∷ []))) None) ws → us ≡ rows ++ (w ∷ ws)
     go true rest h = rest h ∙ append_assoc rows (w ∷ []) ws
-    go false rest h = let z : Some us ≡ None = h ∙ push_none ws in let y : ◌≡◌ {A = ℕ} 0 1 = cc in absurd (omega arith)
+    go false rest h = let z : Some us ≡ None = h ∙ push_none ws in cc
 
 -- Where rows are kept, there are n of them.
 abbrev LenIs : Option (List Row) → ℕ → Type 0
@@ -43,7 +43,7 @@ len_next (Some rows) = refl
 
 len_more : (k k' : Option (List Row)) (ws : List Row) (n m : ℕ) → LenIs k n → k' ≡ push_rows k ws → n + length ws ≡ m → LenIs k' m
 len_more k None ws n m l e c = tt
-len_more None (Some us) ws n m l e c = let z : Some us ≡ None = e ∙ push_none ws in let y : ◌≡◌ {A = ℕ} 0 1 = cc in absurd (omega arith)
+len_more None (Some us) ws n m l e c = let z : Some us ≡ None = e ∙ push_none ws in cc
 len_more (Some rows) (Some us) ws n m l e c = ap length (push_some ws rows us e) ∙ length-append rows ws ∙ ap (λ q. q + length ws) l ∙ c
 
 -- What is added behind n rows, by the number of the next one.

@@ -8,7 +8,7 @@ use Rattle.rule_text.specs.declared.word.Word.TheVariants.{Until, And, Or, Close
 use Rattle.rule_text.specs.Grammar.{prefix_rule, until_rule, Strength, Forms, yes_word, mark_word, condition_word, prefixed, bracketed, until, single, and_words, alone, or_words, IsRule}
 use Rattle.std.proofs.lemmas.Bool.{and_parts, and_from, lt-ltb, le-leb, ltb-true}
 use Rattle.tables.specs.declared.row.Row.{Row}
-use Rattle.tables.specs.declared.row.Operation.TheVariants.{Not as NotRow, And as AndRow, Or as OrRow, Next as NextRow, Until as UntilRow, Always as AlwaysRow}
+use Rattle.tables.specs.declared.row.Operation.TheVariants.{Not as NotRow, Until as UntilRow}
 use Rattle.tables.specs.Tables.{coded, row_fits, rows_fit, accepted}
 use Rattle.rule_text.specs.declared.fault.Fault.{Fault}
 use Rattle.rule_text.specs.declared.fault.FaultKind.TheVariants.{OutOfRange}
@@ -65,12 +65,12 @@ rule_in K (or_words ws vs p q d e) h =
     let a = in_append K ws (Or ∷ vs) h in and_from (rule_in_range K p) (rule_in_range K q) (rule_in K d a.0) (rule_in K e a.1)
 
 pub tested_in : (K : ℕ) (o : Option Word) (w : Word) → tested K o ≡ Ok w → in_range K w ≡ true
-tested_in K None w e = let z : ◌≡◌ {A = ℕ} 0 1 = cc in absurd (omega arith)
+tested_in K None w e = cc
 tested_in K (Some v) w e = go (in_range K v) refl e
   where
     go : (b : Bool) → in_range K v ≡ b → cond b (Ok v) (Err OutOfRange) ≡ Ok w → in_range K w ≡ true
     go true h q = let same : v ≡ w = cc in subst (λ u. in_range K u ≡ true) same h
-    go false h q = let z : ◌≡◌ {A = ℕ} 0 1 = cc in absurd (omega arith)
+    go false h q = cc
 
 -- The words of a rule that is read.
 abbrev ReadWords : ℕ → Result Rule Fault → Type 0
@@ -102,67 +102,55 @@ module _ (K : ℕ) where
   together : {x y : Bool} → x ≡ true → y ≡ true → (x && y) ≡ true
   together {x} {y} h g = and_from x y h g
 
-  not_fits : (i a : ℕ) → a < i → row_fits K i (coded (NotRow a)) ≡ true
-  not_fits i a h = and_from (ltb a i) true (lt-ltb a i h) refl
+  one_fits : (i a : ℕ) → a < i → (ltb a i && true) ≡ true
+  one_fits i a h = and_from (ltb a i) true (lt-ltb a i h) refl
 
-  next_fits : (i a : ℕ) → a < i → row_fits K i (coded (NextRow a)) ≡ true
-  next_fits i a h = and_from (ltb a i) true (lt-ltb a i h) refl
-
-  always_fits : (i a : ℕ) → a < i → row_fits K i (coded (AlwaysRow a)) ≡ true
-  always_fits i a h = and_from (ltb a i) true (lt-ltb a i h) refl
-
-  and_fits : (i a b : ℕ) → a < i → b < i → row_fits K i (coded (AndRow a b)) ≡ true
-  and_fits i a b h g = and_from (ltb a i) (ltb b i) (lt-ltb a i h) (lt-ltb b i g)
-
-  or_fits : (i a b : ℕ) → a < i → b < i → row_fits K i (coded (OrRow a b)) ≡ true
-  or_fits i a b h g = and_from (ltb a i) (ltb b i) (lt-ltb a i h) (lt-ltb b i g)
-
-  until_fits : (i a b : ℕ) → a < i → b < i → row_fits K i (coded (UntilRow a b)) ≡ true
-  until_fits i a b h g = and_from (ltb a i) (ltb b i) (lt-ltb a i h) (lt-ltb b i g)
+  two_fit : (i a b : ℕ) → a < i → b < i → (ltb a i && ltb b i) ≡ true
+  two_fit i a b h g = and_from (ltb a i) (ltb b i) (lt-ltb a i h) (lt-ltb b i g)
 
   seven_fit : (p q n : ℕ) → p < n → q < n → rows_fit K n (until_rows p q n) ≡ true
   seven_fit p q n h g =
-      together (not_fits n p h)
-      (together (not_fits (suc n) q (omega arith))
-      (together (and_fits (suc (suc n)) n (n + 1) (omega arith) (omega arith))
-      (together (until_fits (suc (suc (suc n))) (n + 1) (n + 2) (omega arith) (omega arith))
-      (together (always_fits (suc (suc (suc (suc n)))) (n + 1) (omega arith))
-      (together (or_fits (suc (suc (suc (suc (suc n))))) (n + 3) (n + 4) (omega arith) (omega arith))
-      (together (not_fits (suc (suc (suc (suc (suc (suc n)))))) (n + 5) (omega arith)) refl))))))
+      together (one_fits n p h)
+      (together (one_fits (suc n) q (omega arith))
+      (together (two_fit (suc (suc n)) n (n + 1) (omega arith) (omega arith))
+      (together (two_fit (suc (suc (suc n))) (n + 1) (n + 2) (omega arith) (omega arith))
+      (together (one_fits (suc (suc (suc (suc n)))) (n + 1) (omega arith))
+      (together (two_fit (suc (suc (suc (suc (suc n))))) (n + 3) (n + 4) (omega arith) (omega arith))
+      (together (one_fits (suc (suc (suc (suc (suc (suc n)))))) (n + 5) (omega arith)) refl))))))
 
   rule_fits : (f : Rule) (n : ℕ) → rule_in_range K f ≡ true → rows_fit K n (rows_of n f) ≡ true
   unfolding rows_of
   rule_fits truth n h = refl
   rule_fits (mark k) n h = together (and_from (leb k 31) true (le-leb k 31 (omega (arith, ltb-true k 32 h))) refl) refl
   rule_fits (condition k) n h = together (and_from (ltb k K) true h refl) refl
-  rule_fits (non p) n h = fit_behind n p _ (rule_fits p n h) (together (not_fits (root n p + 1) (root n p) (omega arith)) refl)
+  rule_fits (non p) n h = fit_behind n p _ (rule_fits p n h) (together (one_fits (root n p + 1) (root n p) (omega arith)) refl)
   rule_fits (both p q) n h =
       let a = and_parts (rule_in_range K p) (rule_in_range K q) h in
       let low = root_from (root n p + 1) q in
       fit_behind n p _ (rule_fits p n a.0) (fit_behind (root n p + 1) q _ (rule_fits q (root n p + 1) a.1)
-      (together (and_fits (root (root n p + 1) q + 1) (root n p) (root (root n p + 1) q) (omega arith) (omega arith)) refl))
+      (together (two_fit (root (root n p + 1) q + 1) (root n p) (root (root n p + 1) q) (omega arith) (omega arith)) refl))
   rule_fits (either p q) n h =
       let a = and_parts (rule_in_range K p) (rule_in_range K q) h in
       let low = root_from (root n p + 1) q in
       fit_behind n p _ (rule_fits p n a.0) (fit_behind (root n p + 1) q _ (rule_fits q (root n p + 1) a.1)
-      (together (or_fits (root (root n p + 1) q + 1) (root n p) (root (root n p + 1) q) (omega arith) (omega arith)) refl))
-  rule_fits (ex p) n h = fit_behind n p _ (rule_fits p n h) (together (next_fits (root n p + 1) (root n p) (omega arith)) refl)
+      (together (two_fit (root (root n p + 1) q + 1) (root n p) (root (root n p + 1) q) (omega arith) (omega arith)) refl))
+  rule_fits (ex p) n h = fit_behind n p _ (rule_fits p n h) (together (one_fits (root n p + 1) (root n p) (omega arith)) refl)
   rule_fits (eu p q) n h =
       let a = and_parts (rule_in_range K p) (rule_in_range K q) h in
       let low = root_from (root n p + 1) q in
       fit_behind n p _ (rule_fits p n a.0) (fit_behind (root n p + 1) q _ (rule_fits q (root n p + 1) a.1)
-      (together (until_fits (root (root n p + 1) q + 1) (root n p) (root (root n p + 1) q) (omega arith) (omega arith)) refl))
-  rule_fits (eg p) n h = fit_behind n p _ (rule_fits p n h) (together (always_fits (root n p + 1) (root n p) (omega arith)) refl)
+      (together (two_fit (root (root n p + 1) q + 1) (root n p) (root (root n p + 1) q) (omega arith) (omega arith)) refl))
+  rule_fits (eg p) n h = fit_behind n p _ (rule_fits p n h) (together (one_fits (root n p + 1) (root n p) (omega arith)) refl)
   rule_fits (ef p) n h =
       let one_more : suc n ≡ n + 1 = omega arith in
       let low = root_from (n + 1) p in
       together refl (subst (λ j. rows_fit K j (rows_of (n + 1) p ++ (coded (UntilRow n (root (n + 1) p)) ∷ [])) ≡ true) (sym one_more)
-      (fit_behind (n + 1) p _ (rule_fits p (n + 1) h) (together (until_fits (root (n + 1) p + 1) n (root (n + 1) p) (omega arith) (omega arith)) refl)))
+      (fit_behind (n + 1) p _ (rule_fits p (n + 1) h) (together (two_fit (root (n + 1) p + 1) n (root (n + 1) p) (omega arith) (omega arith)) refl)))
   rule_fits (ax p) n h =
       fit_behind n p _ (rule_fits p n h)
-      (together (not_fits (root n p + 1) (root n p) (omega arith))
-      (together (next_fits (suc (root n p + 1)) (root n p + 1) (omega arith))
-      (together (not_fits (suc (suc (root n p + 1))) (root n p + 2) (omega arith)) refl)))
+      (together (one_fits (root n p + 1) (root n p) (omega arith))
+      (together (one_fits (suc (root n p + 1)) (root n p + 1) (omega arith))
+      (together (one_fits (suc (suc (root n p + 1))) (root n p + 2) (omega arith)) refl)))
   rule_fits (au p q) n h =
       let a = and_parts (rule_in_range K p) (rule_in_range K q) h in
       let low = root_from (root n p + 1) q in
@@ -174,14 +162,14 @@ module _ (K : ℕ) where
       let r = root (n + 1) p in
       together refl (subst (λ j. rows_fit K j (rows_of (n + 1) p ++ (coded (NotRow r) ∷ coded (UntilRow n (r + 1)) ∷ coded (NotRow (r + 2)) ∷ [])) ≡ true) (sym one_more)
       (fit_behind (n + 1) p _ (rule_fits p (n + 1) h)
-      (together (not_fits (r + 1) r (omega arith))
-      (together (until_fits (suc (r + 1)) n (r + 1) (omega arith) (omega arith))
-      (together (not_fits (suc (suc (r + 1))) (r + 2) (omega arith)) refl)))))
+      (together (one_fits (r + 1) r (omega arith))
+      (together (two_fit (suc (r + 1)) n (r + 1) (omega arith) (omega arith))
+      (together (one_fits (suc (suc (r + 1))) (r + 2) (omega arith)) refl)))))
   rule_fits (af p) n h =
       fit_behind n p _ (rule_fits p n h)
-      (together (not_fits (root n p + 1) (root n p) (omega arith))
-      (together (always_fits (suc (root n p + 1)) (root n p + 1) (omega arith))
-      (together (not_fits (suc (suc (root n p + 1))) (root n p + 2) (omega arith)) refl)))
+      (together (one_fits (root n p + 1) (root n p) (omega arith))
+      (together (one_fits (suc (root n p + 1)) (root n p + 1) (omega arith))
+      (together (one_fits (suc (suc (root n p + 1))) (root n p + 2) (omega arith)) refl)))
 
 -- The table of a rule that is read is accepted.
 pub read_accepted : (K : ℕ) (text : List ℕ) (f : Rule) → Reading K text (Ok f) → accepted K (rows_of 0 f) ≡ true

@@ -12,27 +12,27 @@ use Rattle.rule_text.specs.declared.word.Quantifier.{Quantifier}
 use Rattle.rule_text.specs.declared.word.Word.TheVariants.{Before, Routes, Until, And, Or, Open, Close, OpenSquare, CloseSquare}
 use Rattle.rule_text.specs.Grammar.{prefix_rule, until_rule}
 use Rattle.rule_text.specs.Levels.{has_level}
-use Rattle.rule_text.specs.Descent.{unread, end_of, Onward, Stepped, Fails, Took, Missed, Enters, Around, inside, bracket, until_first, until_second, State, before_part, before_square, behind_part, part_done, or_with, next_state, depth, outcome, Added, OneRead, BothRead, ChoiceRead, Joining, Choosing, LastIs, push_row, rows_kept}
+use Rattle.rule_text.specs.Descent.{unread, end_of, Onward, Stepped, Fails, Took, Missed, Enters, Around, inside, bracket, until_first, until_second, State, before_part, before_square, behind_part, part_done, or_with, next_state, depth, outcome, Added, OneRead, BothRead, ChoiceRead, OneFails, BothFails, ChoiceFails, Joining, Choosing, LastIs, push_row, rows_kept}
 use Rattle.rule_text.proofs.Emitted.{added_and, added_or}
-use Rattle.rule_text.proofs.Steps.{ahead_of, leads_bad, ends_same, entered, entered_not, only_close, only_close_square, only_square, only_until, passed, passed_not}
+use Rattle.rule_text.proofs.Steps.{parser, ahead_of, leads_bad, ends_same, entered, entered_not, only_closer, only_square, passed, passed_not}
 
 -- A word alone.
 pub one_word : (n : ℕ) (a b : Reader) (t u : Option Table) (r : ℕ) (w : Word) (f : Rule) → a.word ≡ Some w → (0 < n) × Stepped a b → Added t u f r
     → ((xs : List Prefix) (o l : Option Rule) (K : Around) → next_state (before_part xs o l K) w ≡ Some (part_done xs o l K f))
-    → OneRead n a b t u (Ok r)
+    → OneRead n (parser a t) (parser b u) (Ok r)
 one_word n a b t u r w f e st ad m =
     (f, ad, ahead_of a b w e st.1, λ xs o l K d. entered (end_of a) a b w n xs o l K (part_done xs o l K f) e st d (m xs o l K))
 
-pub one_not_entered : (n : ℕ) (a d b : Reader) (t u : Option Table) (w : Word) (f : Fault) → a.word ≡ Some w → has_level w ≡ true → Enters n a d (Err f)
+pub one_not_entered : (n : ℕ) (a d : Reader) (w : Word) (f : Fault) → a.word ≡ Some w → has_level w ≡ true → Enters n a d (Err f)
     → ((xs : List Prefix) (o l : Option Rule) (K : Around) → (s : State) × (next_state (before_part xs o l K) w ≡ Some s))
-    → OneRead n a b t u (Err f)
-one_not_entered n a d b t u w f e h en m xs o l K q =
+    → OneFails n a f
+one_not_entered n a d w f e h en m xs o l K q =
     let s = m xs o l K in entered_not (end_of a) a d w n xs o l K s.0 f e h en q s.1
 
 -- A prefix and its part.
 pub one_prefix : (x : Prefix) (n : ℕ) (a a₁ b : Reader) (t t₁ u₁ u : Option Table) (part r : ℕ) → a.word ≡ Some (Before x) → Enters n a a₁ (Ok tt) → Onward a a₁
-    → OneRead (n - 1) a₁ b t₁ u₁ (Ok part) → ((p : Rule) → Added t₁ u₁ p part → Added t u (prefix_rule x p) r)
-    → OneRead n a b t u (Ok r)
+    → OneRead (n - 1) (parser a₁ t₁) (parser b u₁) (Ok part) → ((p : Rule) → Added t₁ u₁ p part → Added t u (prefix_rule x p) r)
+    → OneRead n (parser a t) (parser b u) (Ok r)
 one_prefix x n a a₁ b t t₁ u₁ u part r e en on (p, ad, lt, reads) made = (
   prefix_rule x p,
   made p ad,
@@ -44,9 +44,9 @@ one_prefix x n a a₁ b t t₁ u₁ u part r e en on (p, ad, lt, reads) made = (
       ∙ ap (λ i. outcome i (unread b) (part_done (x ∷ xs) o l K p)) (ends_same a a₁ on),
 )
 
-pub one_prefix_not : (x : Prefix) (n : ℕ) (a a₁ b d : Reader) (t t₁ u₁ u : Option Table) (f : Fault) → a.word ≡ Some (Before x) → Enters n a a₁ (Ok tt) → Onward a a₁
-    → OneRead (n - 1) a₁ b t₁ u₁ (Err f) → OneRead n a d t u (Err f)
-one_prefix_not x n a a₁ b c t t₁ u₁ u f e en on reads xs o l K d =
+pub one_prefix_not : (x : Prefix) (n : ℕ) (a a₁ : Reader) (f : Fault) → a.word ≡ Some (Before x) → Enters n a a₁ (Ok tt) → Onward a a₁
+    → OneFails (n - 1) a₁ f → OneFails n a f
+one_prefix_not x n a a₁ f e en on reads xs o l K d =
     entered (end_of a) a a₁ (Before x) n xs o l K (before_part (x ∷ xs) o l K) e en d refl
     ∙ ap (λ i. outcome i (unread a₁) (before_part (x ∷ xs) o l K)) (sym (ends_same a a₁ on))
     ∙ reads (x ∷ xs) o l K (omega (arith, en.0))
@@ -59,10 +59,10 @@ module _ (n : ℕ) (a a₁ : Reader) (e : a.word ≡ Some Open) (en : Enters n a
       entered (end_of a) a a₁ Open n xs o l K (before_part [] None None (inside bracket xs o l K)) e en d refl
       ∙ ap (λ i. outcome i (unread a₁) (before_part [] None None (inside bracket xs o l K))) (sym (ends_same a a₁ on))
 
-  pub one_bracket_not : (b d : Reader) (t u t₁ u₁ : Option Table) (f : Fault) → ChoiceRead (n - 1) a₁ b t u (Err f) → OneRead n a d t₁ u₁ (Err f)
-  one_bracket_not b d t u t₁ u₁ f reads xs o l K q = into_bracket xs o l K q ∙ reads (inside bracket xs o l K) (omega (arith, en.0))
+  pub one_bracket_not : (f : Fault) → ChoiceFails (n - 1) a₁ f → OneFails n a f
+  one_bracket_not f reads xs o l K q = into_bracket xs o l K q ∙ reads (inside bracket xs o l K) (omega (arith, en.0))
 
-  pub one_bracket : (b d : Reader) (t u : Option Table) (r : ℕ) → ChoiceRead (n - 1) a₁ b t u (Ok r) → Onward a₁ b → Took Close b d → OneRead n a d t u (Ok r)
+  pub one_bracket : (b d : Reader) (t u : Option Table) (r : ℕ) → ChoiceRead (n - 1) (parser a₁ t) (parser b u) (Ok r) → Onward a₁ b → Took Close b d → OneRead n (parser a t) (parser d u) (Ok r)
   one_bracket b d t u r (p, f, ad, lt, no_and, no_or, reads) on₁ tk = (
     or_with p f,
     ad,
@@ -73,13 +73,13 @@ module _ (n : ℕ) (a a₁ : Reader) (e : a.word ≡ Some Open) (en : Enters n a
         ∙ ap (λ i. outcome i (unread d) (part_done xs o l K (or_with p f))) (ends_same a a₁ on),
   )
 
-  pub one_bracket_open : (b d : Reader) (t u t₁ u₁ : Option Table) (r : ℕ) (g : Fault) → ChoiceRead (n - 1) a₁ b t u (Ok r) → Onward a₁ b → Missed Close b g
-      → OneRead n a d t₁ u₁ (Err g)
-  one_bracket_open b d t u t₁ u₁ r g (p, f, ad, lt, no_and, no_or, reads) on₁ ms xs o l K q =
+  pub one_bracket_open : (b : Reader) (t u : Option Table) (r : ℕ) (g : Fault) → ChoiceRead (n - 1) (parser a₁ t) (parser b u) (Ok r) → Onward a₁ b → Missed Close b g
+      → OneFails n a g
+  one_bracket_open b t u r g (p, f, ad, lt, no_and, no_or, reads) on₁ ms xs o l K q =
       into_bracket xs o l K q ∙ reads (inside bracket xs o l K) (omega (arith, en.0))
       ∙ ap (λ i. outcome i (unread b) (behind_part p f (inside bracket xs o l K))) (sym (ends_same a₁ b on₁))
       ∙ passed_not b Close (behind_part p f (inside bracket xs o l K)) (part_done xs o l K (or_with p f)) g refl ms refl refl
-      (λ v h ne. only_close f p xs o l K v (λ x. no_and (h ∙ ap Some x)) (λ x. no_or (h ∙ ap Some x)) ne)
+      (λ v h ne. only_closer f p (inside bracket xs o l K) v (λ x. no_and (h ∙ ap Some x)) (λ x. no_or (h ∙ ap Some x)) (λ e. ne cc))
 
 -- Into an until.
 module _ (k : Quantifier) (n : ℕ) (a a₁ : Reader) (e : a.word ≡ Some (Routes k)) (en : Enters n a a₁ (Ok tt)) (on : Onward a a₁) where
@@ -89,8 +89,8 @@ module _ (k : Quantifier) (n : ℕ) (a a₁ : Reader) (e : a.word ≡ Some (Rout
       entered (end_of a) a a₁ (Routes k) n xs o l K (before_square k xs o l K) e en d refl
       ∙ ap (λ i. outcome i (unread a₁) (before_square k xs o l K)) (sym (ends_same a a₁ on))
 
-  pub one_until_square : (d : Reader) (t u : Option Table) (g : Fault) → Missed OpenSquare a₁ g → OneRead n a d t u (Err g)
-  one_until_square d t u g ms xs o l K q =
+  pub one_until_square : (g : Fault) → Missed OpenSquare a₁ g → OneFails n a g
+  one_until_square g ms xs o l K q =
       to_square xs o l K q
       ∙ passed_not a₁ OpenSquare (before_square k xs o l K) (before_part [] None None (inside (until_first k) xs o l K)) g refl ms refl refl
       (λ v h ne. only_square k xs o l K v ne)
@@ -103,22 +103,22 @@ module _ (k : Quantifier) (n : ℕ) (a a₁ : Reader) (e : a.word ≡ Some (Rout
         ∙ passed (end_of a₁) a₁ a₂ OpenSquare (before_square k xs o l K) (before_part [] None None (inside (until_first k) xs o l K)) refl sq refl
         ∙ ap (λ i. outcome i (unread a₂) (before_part [] None None (inside (until_first k) xs o l K))) (sym (ends_same a₁ a₂ on₁))
 
-    pub one_until_first_not : (b d : Reader) (t u t₁ u₁ : Option Table) (g : Fault) → ChoiceRead (n - 1) a₂ b t u (Err g) → OneRead n a d t₁ u₁ (Err g)
-    one_until_first_not b d t u t₁ u₁ g reads xs o l K q = to_first xs o l K q ∙ reads (inside (until_first k) xs o l K) (omega (arith, en.0))
+    pub one_until_first_not : (g : Fault) → ChoiceFails (n - 1) a₂ g → OneFails n a g
+    one_until_first_not g reads xs o l K q = to_first xs o l K q ∙ reads (inside (until_first k) xs o l K) (omega (arith, en.0))
 
-    module _ (b : Reader) (t u : Option Table) (r : ℕ) (first : ChoiceRead (n - 1) a₂ b t u (Ok r)) (on₂ : Onward a₂ b) where
+    module _ (b : Reader) (t u : Option Table) (r : ℕ) (first : ChoiceRead (n - 1) (parser a₂ t) (parser b u) (Ok r)) (on₂ : Onward a₂ b) where
       to_until : (xs : List Prefix) (o l : Option Rule) (K : Around) → length xs + depth K + n ≡ 32
           → outcome (end_of a) (unread a) (before_part xs o l K) ≡ outcome (end_of b) (unread b) (behind_part first.0 first.1 (inside (until_first k) xs o l K))
       to_until xs o l K d =
           to_first xs o l K d ∙ first.6 (inside (until_first k) xs o l K) (omega (arith, en.0))
           ∙ ap (λ i. outcome i (unread b) (behind_part first.0 first.1 (inside (until_first k) xs o l K))) (sym (ends_same a₂ b on₂))
 
-      pub one_until_missing : (d : Reader) (t₁ u₁ : Option Table) (g : Fault) → Missed Until b g → OneRead n a d t₁ u₁ (Err g)
-      one_until_missing d t₁ u₁ g ms xs o l K q =
+      pub one_until_missing : (g : Fault) → Missed Until b g → OneFails n a g
+      one_until_missing g ms xs o l K q =
           to_until xs o l K q
           ∙ passed_not b Until (behind_part first.0 first.1 (inside (until_first k) xs o l K))
           (before_part [] None None (inside (until_second k (or_with first.0 first.1)) xs o l K)) g refl ms refl refl
-          (λ v h ne. only_until first.1 first.0 k xs o l K v (λ x. first.4 (h ∙ ap Some x)) (λ x. first.5 (h ∙ ap Some x)) ne)
+          (λ v h ne. only_closer first.1 first.0 (inside (until_first k) xs o l K) v (λ x. first.4 (h ∙ ap Some x)) (λ x. first.5 (h ∙ ap Some x)) (λ e. ne cc))
 
       module _ (b₁ : Reader) (un : Took Until b b₁) (on₃ : Onward b b₁) where
         to_second : (xs : List Prefix) (o l : Option Rule) (K : Around) → length xs + depth K + n ≡ 32
@@ -130,11 +130,11 @@ module _ (k : Quantifier) (n : ℕ) (a a₁ : Reader) (e : a.word ≡ Some (Rout
             (before_part [] None None (inside (until_second k (or_with first.0 first.1)) xs o l K)) refl un refl
             ∙ ap (λ i. outcome i (unread b₁) (before_part [] None None (inside (until_second k (or_with first.0 first.1)) xs o l K))) (sym (ends_same b b₁ on₃))
 
-        pub one_until_second_not : (c d : Reader) (t₁ u₁ t₂ u₂ : Option Table) (g : Fault) → ChoiceRead (n - 1) b₁ c t₁ u₁ (Err g) → OneRead n a d t₂ u₂ (Err g)
-        one_until_second_not c d t₁ u₁ t₂ u₂ g reads xs o l K q =
+        pub one_until_second_not : (g : Fault) → ChoiceFails (n - 1) b₁ g → OneFails n a g
+        one_until_second_not g reads xs o l K q =
             to_second xs o l K q ∙ reads (inside (until_second k (or_with first.0 first.1)) xs o l K) (omega (arith, en.0))
 
-        module _ (c : Reader) (v : Option Table) (s : ℕ) (second : ChoiceRead (n - 1) b₁ c u v (Ok s)) (on₄ : Onward b₁ c) where
+        module _ (c : Reader) (v : Option Table) (s : ℕ) (second : ChoiceRead (n - 1) (parser b₁ u) (parser c v) (Ok s)) (on₄ : Onward b₁ c) where
           to_close : (xs : List Prefix) (o l : Option Rule) (K : Around) → length xs + depth K + n ≡ 32
               → outcome (end_of a) (unread a) (before_part xs o l K)
               ≡ outcome (end_of c) (unread c) (behind_part second.0 second.1 (inside (until_second k (or_with first.0 first.1)) xs o l K))
@@ -143,17 +143,17 @@ module _ (k : Quantifier) (n : ℕ) (a a₁ : Reader) (e : a.word ≡ Some (Rout
               ∙ ap (λ i. outcome i (unread c) (behind_part second.0 second.1 (inside (until_second k (or_with first.0 first.1)) xs o l K)))
               (sym (ends_same b₁ c on₄))
 
-          pub one_until_open : (d : Reader) (t₁ u₁ : Option Table) (g : Fault) → Missed CloseSquare c g → OneRead n a d t₁ u₁ (Err g)
-          one_until_open d t₁ u₁ g ms xs o l K q =
+          pub one_until_open : (g : Fault) → Missed CloseSquare c g → OneFails n a g
+          one_until_open g ms xs o l K q =
               to_close xs o l K q
               ∙ passed_not c CloseSquare (behind_part second.0 second.1 (inside (until_second k (or_with first.0 first.1)) xs o l K))
               (part_done xs o l K (until_rule k (or_with first.0 first.1) (or_with second.0 second.1))) g refl ms refl refl
-              (λ v h ne. only_close_square second.1 second.0 k (or_with first.0 first.1) xs o l K v
-              (λ x. second.4 (h ∙ ap Some x)) (λ x. second.5 (h ∙ ap Some x)) ne)
+              (λ v h ne. only_closer second.1 second.0 (inside (until_second k (or_with first.0 first.1)) xs o l K) v
+              (λ x. second.4 (h ∙ ap Some x)) (λ x. second.5 (h ∙ ap Some x)) (λ e. ne cc))
 
           pub one_until : (d : Reader) (w : Option Table) (m : ℕ) → Took CloseSquare c d
               → Added t w (until_rule k (or_with first.0 first.1) (or_with second.0 second.1)) m
-              → OneRead n a d t w (Ok m)
+              → OneRead n (parser a t) (parser d w) (Ok m)
           one_until d w m tk ad = (
             until_rule k (or_with first.0 first.1) (or_with second.0 second.1),
             ad,
@@ -175,9 +175,9 @@ module _ (k : Quantifier) (n : ℕ) (a a₁ : Reader) (e : a.word ≡ Some (Rout
           )
 
 -- One more part behind `&`.
-pub joining_more : (n : ℕ) (a b b₁ b₂ : Reader) (t u u₁ u₂ : Option Table) (v r right r₂ : ℕ) → Joining n a b t u v r → Onward a b → b.word ≡ Some And
-    → Stepped b b₁ → Onward b b₁ → OneRead n b₁ b₂ u u₁ (Ok right)
-    → rows_kept u₂ ≡ push_row (rows_kept u₁) (coded (AndRow r right)) → LastIs (rows_kept u₂) r₂ → Joining n a b₂ t u₂ v r₂
+pub joining_more : (n : ℕ) (a b b₁ b₂ : Reader) (t u u₁ u₂ : Option Table) (v r right r₂ : ℕ) → Joining n (parser a t) (parser b u) v r → Onward a b → b.word ≡ Some And
+    → Stepped b b₁ → Onward b b₁ → OneRead n (parser b₁ u) (parser b₂ u₁) (Ok right)
+    → rows_kept u₂ ≡ push_row (rows_kept u₁) (coded (AndRow r right)) → LastIs (rows_kept u₂) r₂ → Joining n (parser a t) (parser b₂ u₂) v r₂
 joining_more n a b b₁ b₂ t u u₁ u₂ v r right r₂ so on e st on₁ (g, ag, lt, reads) rows last t₀ f₀ ad₀ =
     let sofar = so t₀ f₀ ad₀ in
     let f = sofar.0 in
@@ -193,7 +193,7 @@ joining_more n a b b₁ b₂ t u u₁ u₂ v r right r₂ so on e st on₁ (g, a
     )
 
 -- The first part of `both`, and what its loop came to.
-module _ (n : ℕ) (a a₀ b : Reader) (t t₀ u : Option Table) (v r : ℕ) (first : OneRead n a a₀ t t₀ (Ok v)) (on : Onward a a₀) (so : Joining n a₀ b t₀ u v r) where
+module _ (n : ℕ) (a a₀ b : Reader) (t t₀ u : Option Table) (v r : ℕ) (first : OneRead n (parser a t) (parser a₀ t₀) (Ok v)) (on : Onward a a₀) (so : Joining n (parser a₀ t₀) (parser b u) v r) where
   both_read : (o : Option Rule) (K : Around) → depth K + n ≡ 32
       → outcome (end_of a) (unread a) (before_part [] o None K) ≡ outcome (end_of a) (unread b) (behind_part o (so t first.0 first.1).0 K)
   both_read o K d =
@@ -202,25 +202,22 @@ module _ (n : ℕ) (a a₀ b : Reader) (t t₀ u : Option Table) (v r : ℕ) (fi
       ∙ (so t first.0 first.1).2 o K d
       ∙ ap (λ i. outcome i (unread b) (behind_part o (so t first.0 first.1).0 K)) (ends_same a a₀ on)
 
-  pub both_done : a₀.start ≤ b.start → (b.word ≡ Some And → ⊥) → BothRead n a b t u (Ok r)
-  both_done le no_and = ((so t first.0 first.1).0, (so t first.0 first.1).1, omega (arith, first.2), no_and, both_read)
-
-  pub both_next_bad : (d : Reader) (u₁ : Option Table) (e : Fault) → b.word ≡ Some And → Fails b e → BothRead n a d t u₁ (Err e)
-  both_next_bad d u₁ e w bad_next o K q =
+  pub both_next_bad : (e : Fault) → b.word ≡ Some And → Fails b e → BothFails n a e
+  both_next_bad e w bad_next o K q =
       both_read o K q
       ∙ leads_bad (end_of a) b And (behind_part o (so t first.0 first.1).0 K) (before_part [] o (Some (so t first.0 first.1).0) K) e w refl refl bad_next
 
-  pub both_part_bad : (b₁ b₂ d : Reader) (u₁ u₂ : Option Table) (e : Fault) → b.word ≡ Some And → Stepped b b₁ → Onward a b₁ → OneRead n b₁ b₂ u u₁ (Err e) → BothRead n a d t u₂ (Err e)
-  both_part_bad b₁ b₂ d u₁ u₂ e w st on₁ part o K q =
+  pub both_part_bad : (b₁ : Reader) (e : Fault) → b.word ≡ Some And → Stepped b b₁ → Onward a b₁ → OneFails n b₁ e → BothFails n a e
+  both_part_bad b₁ e w st on₁ part o K q =
       both_read o K q
       ∙ passed (end_of a) b b₁ And (behind_part o (so t first.0 first.1).0 K) (before_part [] o (Some (so t first.0 first.1).0) K) refl (record { was = w; step = st }) refl
       ∙ ap (λ i. outcome i (unread b₁) (before_part [] o (Some (so t first.0 first.1).0) K)) (sym (ends_same a b₁ on₁))
       ∙ part [] o (Some (so t first.0 first.1).0) K (omega (arith, q))
 
 -- One more operand behind `|`.
-pub choosing_more : (n : ℕ) (a b b₁ b₂ : Reader) (t u u₁ u₂ : Option Table) (v r right r₂ : ℕ) → Choosing n a b t u v r → Onward a b → b.word ≡ Some Or
-    → Stepped b b₁ → Onward b b₁ → BothRead n b₁ b₂ u u₁ (Ok right)
-    → rows_kept u₂ ≡ push_row (rows_kept u₁) (coded (OrRow r right)) → LastIs (rows_kept u₂) r₂ → Choosing n a b₂ t u₂ v r₂
+pub choosing_more : (n : ℕ) (a b b₁ b₂ : Reader) (t u u₁ u₂ : Option Table) (v r right r₂ : ℕ) → Choosing n (parser a t) (parser b u) v r → Onward a b → b.word ≡ Some Or
+    → Stepped b b₁ → Onward b b₁ → BothRead n (parser b₁ u) (parser b₂ u₁) (Ok right)
+    → rows_kept u₂ ≡ push_row (rows_kept u₁) (coded (OrRow r right)) → LastIs (rows_kept u₂) r₂ → Choosing n (parser a t) (parser b₂ u₂) v r₂
 choosing_more n a b b₁ b₂ t u u₁ u₂ v r right r₂ so on e st on₁ (g, ag, lt, no_and, reads) rows last t₀ o₀ f₀ ad₀ =
     let sofar = so t₀ o₀ f₀ ad₀ in
     let p = or_with sofar.0 sofar.1 in
@@ -236,7 +233,7 @@ choosing_more n a b b₁ b₂ t u u₁ u₂ v r right r₂ so on e st on₁ (g, 
           ∙ ap (λ i. outcome i (unread b₂) (behind_part (Some p) g K)) ends,
     )
 
-module _ (n : ℕ) (a a₀ b : Reader) (t t₀ u : Option Table) (v r : ℕ) (first : BothRead n a a₀ t t₀ (Ok v)) (on : Onward a a₀) (so : Choosing n a₀ b t₀ u v r) where
+module _ (n : ℕ) (a a₀ b : Reader) (t t₀ u : Option Table) (v r : ℕ) (first : BothRead n (parser a t) (parser a₀ t₀) (Ok v)) (on : Onward a a₀) (so : Choosing n (parser a₀ t₀) (parser b u) v r) where
   choice_read : (K : Around) → depth K + n ≡ 32
       → outcome (end_of a) (unread a) (before_part [] None None K)
       ≡ outcome (end_of a) (unread b) (behind_part (so t None first.0 first.1).0 (so t None first.0 first.1).1 K)
@@ -246,24 +243,21 @@ module _ (n : ℕ) (a a₀ b : Reader) (t t₀ u : Option Table) (v r : ℕ) (fi
       ∙ (so t None first.0 first.1).3 K d
       ∙ ap (λ i. outcome i (unread b) (behind_part (so t None first.0 first.1).0 (so t None first.0 first.1).1 K)) (ends_same a a₀ on)
 
-  pub choice_done : a₀.start ≤ b.start → (b.word ≡ Some And → ⊥) → (b.word ≡ Some Or → ⊥) → ChoiceRead n a b t u (Ok r)
+  pub choice_done : a₀.start ≤ b.start → (b.word ≡ Some And → ⊥) → (b.word ≡ Some Or → ⊥) → ChoiceRead n (parser a t) (parser b u) (Ok r)
   choice_done le no_and no_or =
       ((so t None first.0 first.1).0, (so t None first.0 first.1).1, (so t None first.0 first.1).2, omega (arith, first.2), no_and, no_or, choice_read)
 
-  pub choice_next_bad : (d : Reader) (u₁ : Option Table) (e : Fault) → b.word ≡ Some Or → Fails b e → ChoiceRead n a d t u₁ (Err e)
-  choice_next_bad d u₁ e w bad_next K q =
+  pub choice_next_bad : (e : Fault) → b.word ≡ Some Or → Fails b e → ChoiceFails n a e
+  choice_next_bad e w bad_next K q =
       choice_read K q
       ∙ leads_bad (end_of a) b Or (behind_part (so t None first.0 first.1).0 (so t None first.0 first.1).1 K)
       (before_part [] (Some (or_with (so t None first.0 first.1).0 (so t None first.0 first.1).1)) None K) e w refl refl bad_next
 
-  pub choice_part_bad : (b₁ b₂ d : Reader) (u₁ u₂ : Option Table) (e : Fault) → b.word ≡ Some Or → Stepped b b₁ → Onward a b₁ → BothRead n b₁ b₂ u u₁ (Err e) → ChoiceRead n a d t u₂ (Err e)
-  choice_part_bad b₁ b₂ d u₁ u₂ e w st on₁ part K q =
+  pub choice_part_bad : (b₁ : Reader) (e : Fault) → b.word ≡ Some Or → Stepped b b₁ → Onward a b₁ → BothFails n b₁ e → ChoiceFails n a e
+  choice_part_bad b₁ e w st on₁ part K q =
       let p = or_with (so t None first.0 first.1).0 (so t None first.0 first.1).1 in
       choice_read K q
       ∙ passed (end_of a) b b₁ Or (behind_part (so t None first.0 first.1).0 (so t None first.0 first.1).1 K) (before_part [] (Some p) None K) refl
       (record { was = w; step = st }) refl
       ∙ ap (λ i. outcome i (unread b₁) (before_part [] (Some p) None K)) (sym (ends_same a b₁ on₁))
       ∙ part (Some p) K q
-
-pub later : (a b : Reader) (w : Word) → a.word ≡ Some w → Stepped a b → a.start < b.start
-later = ahead_of

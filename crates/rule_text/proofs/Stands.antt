@@ -1,5 +1,5 @@
 -- Where the reader stands, by the words before.
-use Rattle.std.proofs.Common.{◌≡◌, ℕ, ◌+◌, List, [], ◌∷◌, ◌++◌, length, Some, None, Option, sym, refl, ap, ◌∙◌, subst, arith}
+use Rattle.std.proofs.Common.{◌≡◌, ◌+◌, List, [], ◌∷◌, ◌++◌, length, Some, None, Option, sym, refl, ap, ◌∙◌, subst, arith}
 use Rattle.std.proofs.lemmas.List.{append_assoc, append-nil}
 use Rattle.routing.specs.Rules.{Rule, truth, mark, condition}
 use Rattle.rule_text.specs.declared.word.Prefix.{Prefix}
@@ -166,13 +166,13 @@ stands_more (behind_part o p K) CloseSquare us h = close_square_step K (or_with 
 
 -- Where the text may end, the words are the rule.
 pub ends_as : (s : State) (us : List Word) (f : Rule) → Stands s us → rule_read s ≡ Some f → IsRule us f
-ends_as (before_part xs o a K) us f h e = let z : ◌≡◌ {A = ℕ} 0 1 = cc in absurd (omega arith)
-ends_as (before_square q xs o a K) us f h e = let z : ◌≡◌ {A = ℕ} 0 1 = cc in absurd (omega arith)
+ends_as (before_part xs o a K) us f h e = cc
+ends_as (before_square q xs o a K) us f h e = cc
 ends_as (behind_part o p nothing) us f h e =
     let (ks, vs, e', g, d) = whole_read (Opens nothing) o p us h in
     let same : or_with o p ≡ f = cc in
     subst (λ r. IsRule us r) same (subst (λ v. IsRule v (or_with o p)) (sym (e' ∙ ap (λ v. v ++ vs) g)) d)
-ends_as (behind_part o p (inside k xs q a K)) us f h e = let z : ◌≡◌ {A = ℕ} 0 1 = cc in absurd (omega arith)
+ends_as (behind_part o p (inside k xs q a K)) us f h e = cc
 
 -- Any words that lead to a state begin a rule.
 abbrev Begins : List Word → Type 0

@@ -3,6 +3,8 @@ use Rattle.std.proofs.Common.{IsErrAnd, ◌≡◌, ℕ, ◌+◌, ◌<◌, true, 
 use Rattle.rule_text.specs.declared.fault.Fault.{Fault}
 use Rattle.rule_text.specs.declared.fault.FaultKind.TheVariants.{CannotFollow}
 use Rattle.rule_text.specs.declared.reader.Reader.{Reader}
+use Rattle.rule_text.specs.declared.parse.Parser.{Parser}
+use Rattle.rule_text.specs.declared.table.Table.{Table}
 use Rattle.rule_text.specs.declared.word.Word.{Word}
 use Rattle.rule_text.specs.Faults.{fault}
 use Rattle.std.proofs.lemmas.Result.{err_from_is_err_and}
@@ -12,7 +14,10 @@ use Rattle.rule_text.specs.declared.word.Prefix.{Prefix}
 use Rattle.rule_text.specs.declared.word.Quantifier.{Quantifier}
 use Rattle.rule_text.specs.declared.word.Word.TheVariants.{Yes, Mark, Condition, Before, Routes, Until, And, Or, Open, Close, OpenSquare, CloseSquare}
 use Rattle.rule_text.specs.Levels.{has_level}
-use Rattle.rule_text.specs.Descent.{items, left, unread, end_of, Onward, Stepped, Fails, Took, Missed, another, faulty, Takes, Enters, Around, inside, bracket, until_first, until_second, State, before_part, before_square, behind_part, next_state, depth, levels_at, rule_read, at_end, moved, outcome}
+use Rattle.rule_text.specs.Descent.{items, left, unread, end_of, Onward, Stepped, Fails, Took, Missed, another, faulty, Takes, Enters, Around, nothing, inside, bracket, until_first, until_second, State, before_part, before_square, behind_part, next_state, depth, levels_at, rule_read, at_end, moved, outcome}
+
+abbrev pub parser : Reader → Option Table → Parser
+parser r t = record { reader = r; table = t }
 
 -- The exit of a `?`.
 pub left_with : {T : Type 0} (P : Result T Fault → Type 0) (r : Result T Fault) (e : Fault) → IsErrAnd r (λ y. y ≡ e) → P (Err e) → P r
@@ -90,7 +95,7 @@ pub passed : (end : ℕ) (a b : Reader) (w : Word) (s s' : State) → has_level 
     → outcome end (unread a) s ≡ outcome end (unread b) s'
 passed end a b w s s' h tk m = leads end a b w s s' tk.was (ap (λ v. v && leb 32 (levels_at s)) h) m tk.step
 
-word_told : (o : Option Word) → (o ≡ None) ⊎ ((v : Word) × (o ≡ Some v))
+pub word_told : (o : Option Word) → (o ≡ None) ⊎ ((v : Word) × (o ≡ Some v))
 word_told None = inl refl
 word_told (Some v) = inr (v, refl)
 
@@ -118,55 +123,41 @@ only_square q xs o l K Close n = refl
 only_square q xs o l K OpenSquare n = absurd (n refl)
 only_square q xs o l K CloseSquare n = refl
 
-pub only_close : (f : Rule) (p : Option Rule) (xs : List Prefix) (o l : Option Rule) (K : Around) (v : Word) → (v ≡ And → ⊥) → (v ≡ Or → ⊥) → (v ≡ Close → ⊥)
-    → next_state (behind_part p f (inside bracket xs o l K)) v ≡ None
-only_close f p xs o l K Yes n m k = refl
-only_close f p xs o l K (Mark i) n m k = refl
-only_close f p xs o l K (Condition i) n m k = refl
-only_close f p xs o l K (Before x) n m k = refl
-only_close f p xs o l K (Routes r) n m k = refl
-only_close f p xs o l K Until n m k = refl
-only_close f p xs o l K And n m k = absurd (n refl)
-only_close f p xs o l K Or n m k = absurd (m refl)
-only_close f p xs o l K Open n m k = refl
-only_close f p xs o l K Close n m k = absurd (k refl)
-only_close f p xs o l K OpenSquare n m k = refl
-only_close f p xs o l K CloseSquare n m k = refl
+-- The word that ends what is open.
+abbrev pub closer : Around → Option Word
+closer nothing = None
+closer (inside bracket xs o l K) = Some Close
+closer (inside (until_first q) xs o l K) = Some Until
+closer (inside (until_second q p) xs o l K) = Some CloseSquare
 
-pub only_until : (f : Rule) (p : Option Rule) (q : Quantifier) (xs : List Prefix) (o l : Option Rule) (K : Around) (v : Word) → (v ≡ And → ⊥) → (v ≡ Or → ⊥) → (v ≡ Until → ⊥)
-    → next_state (behind_part p f (inside (until_first q) xs o l K)) v ≡ None
-only_until f p q xs o l K Yes n m k = refl
-only_until f p q xs o l K (Mark i) n m k = refl
-only_until f p q xs o l K (Condition i) n m k = refl
-only_until f p q xs o l K (Before x) n m k = refl
-only_until f p q xs o l K (Routes r) n m k = refl
-only_until f p q xs o l K Until n m k = absurd (k refl)
-only_until f p q xs o l K And n m k = absurd (n refl)
-only_until f p q xs o l K Or n m k = absurd (m refl)
-only_until f p q xs o l K Open n m k = refl
-only_until f p q xs o l K Close n m k = refl
-only_until f p q xs o l K OpenSquare n m k = refl
-only_until f p q xs o l K CloseSquare n m k = refl
-
-pub only_close_square : (f : Rule) (p : Option Rule) (q : Quantifier) (g : Rule) (xs : List Prefix) (o l : Option Rule) (K : Around) (v : Word) → (v ≡ And → ⊥) → (v ≡ Or → ⊥) → (v ≡ CloseSquare → ⊥)
-    → next_state (behind_part p f (inside (until_second q g) xs o l K)) v ≡ None
-only_close_square f p q g xs o l K Yes n m k = refl
-only_close_square f p q g xs o l K (Mark i) n m k = refl
-only_close_square f p q g xs o l K (Condition i) n m k = refl
-only_close_square f p q g xs o l K (Before x) n m k = refl
-only_close_square f p q g xs o l K (Routes r) n m k = refl
-only_close_square f p q g xs o l K Until n m k = refl
-only_close_square f p q g xs o l K And n m k = absurd (n refl)
-only_close_square f p q g xs o l K Or n m k = absurd (m refl)
-only_close_square f p q g xs o l K Open n m k = refl
-only_close_square f p q g xs o l K Close n m k = refl
-only_close_square f p q g xs o l K OpenSquare n m k = refl
-only_close_square f p q g xs o l K CloseSquare n m k = absurd (k refl)
+pub only_closer : (f : Rule) (p : Option Rule) (K : Around) (v : Word) → (v ≡ And → ⊥) → (v ≡ Or → ⊥) → (Some v ≡ closer K → ⊥)
+    → next_state (behind_part p f K) v ≡ None
+only_closer f p K Yes n m k = refl
+only_closer f p K (Mark i) n m k = refl
+only_closer f p K (Condition i) n m k = refl
+only_closer f p K (Before x) n m k = refl
+only_closer f p K (Routes r) n m k = refl
+only_closer f p nothing Until n m k = refl
+only_closer f p (inside bracket xs o l K) Until n m k = refl
+only_closer f p (inside (until_first q) xs o l K) Until n m k = absurd (k refl)
+only_closer f p (inside (until_second q g) xs o l K) Until n m k = refl
+only_closer f p K And n m k = absurd (n refl)
+only_closer f p K Or n m k = absurd (m refl)
+only_closer f p K Open n m k = refl
+only_closer f p nothing Close n m k = refl
+only_closer f p (inside bracket xs o l K) Close n m k = absurd (k refl)
+only_closer f p (inside (until_first q) xs o l K) Close n m k = refl
+only_closer f p (inside (until_second q g) xs o l K) Close n m k = refl
+only_closer f p K OpenSquare n m k = refl
+only_closer f p nothing CloseSquare n m k = refl
+only_closer f p (inside bracket xs o l K) CloseSquare n m k = refl
+only_closer f p (inside (until_first q) xs o l K) CloseSquare n m k = refl
+only_closer f p (inside (until_second q g) xs o l K) CloseSquare n m k = absurd (k refl)
 
 -- The word in hand is before the next byte.
 pub ahead_of : (a b : Reader) (w : Word) → a.word ≡ Some w → Stepped a b → a.start < b.start
 ahead_of a b w e st =
-    let some : a.word ≡ None → ⊥ = λ n. let z : ◌≡◌ {A = ℕ} 0 1 = cc in omega arith in
+    let some : a.word ≡ None → ⊥ = λ n. cc in
     omega (arith, a.ahead some, st.later)
 
 pub ends_same : (a b : Reader) → Onward a b → end_of b ≡ end_of a

@@ -50,12 +50,12 @@ follows before s s' w k e =
 pub follows_not : (before : List Word) (s : State) (w : Word) → Known before s → next_state s w ≡ None → ¬ (CanFollow before w)
 follows_not before s w k e (rest, f, d) =
     let none : None ≡ Some f = ap (λ q. onto q (accepts rest)) (sym e) ∙ k.whole_rules (w ∷ rest) f d in
-    let z : ◌≡◌ {A = ℕ} 0 1 = cc in omega arith
+    cc
 
 pub no_rule : (before : List Word) (s : State) → Known before s → rule_read s ≡ None → (f : Rule) → ¬ (IsRule before f)
 no_rule before s k e f d =
     let none : None ≡ Some f = sym e ∙ k.whole_rules [] f (subst (λ v. IsRule v f) (sym (append-nil before)) d) in
-    let z : ◌≡◌ {A = ℕ} 0 1 = cc in omega arith
+    cc
 
 -- The test of the rows comes last.
 abbrev pub rowed : ℕ → Result Rule Fault → Result Rule Fault

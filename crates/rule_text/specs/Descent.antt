@@ -11,6 +11,7 @@ use Rattle.rule_text.specs.declared.fault.FaultKind.TheVariants.{CannotFollow, T
 use Rattle.rule_text.specs.declared.word.Prefix.{Prefix}
 use Rattle.rule_text.specs.declared.word.Prefix.TheVariants.{Not, Ex, Ax, Ef, Af, Eg, Ag}
 use Rattle.rule_text.specs.declared.reader.Reader.{Reader}
+use Rattle.rule_text.specs.declared.parse.Parser.{Parser}
 use Rattle.rule_text.specs.declared.table.Table.{Table}
 use Rattle.rule_text.specs.declared.word.Quantifier.{Quantifier}
 use Rattle.rule_text.specs.declared.word.Quantifier.TheVariants.{Exists, Forall}
@@ -265,51 +266,60 @@ abbrev pub Takes : Word → Reader → Reader → Result (Unit {0}) Fault → Ty
 Takes w a b (Ok u) = Took w a b
 Takes w a b (Err e) = Missed w a e
 
--- `one` with n levels left: from any place before a part it comes behind the part, or to its fault.
-abbrev pub OneRead : ℕ → Reader → Reader → Option Table → Option Table → Result ℕ Fault → Type 0
-OneRead n a b t u (Ok r) =
-    (f : Rule) × Added t u f r × (a.start < b.start)
-    × ((xs : List Prefix) (o l : Option Rule) (K : Around) → length xs + depth K + n ≡ 32
-    → outcome (end_of a) (unread a) (before_part xs o l K) ≡ outcome (end_of a) (unread b) (part_done xs o l K f))
-OneRead n a b t u (Err e) =
+-- With n levels left, what is read as a part, as parts joined by `&` or as a whole rule comes to the fault.
+abbrev pub OneFails : ℕ → Reader → Fault → Type 0
+OneFails n a e =
     (xs : List Prefix) (o l : Option Rule) (K : Around) → length xs + depth K + n ≡ 32
     → outcome (end_of a) (unread a) (before_part xs o l K) ≡ Err e
 
--- `both` with n levels left: the parts joined by `&`.
-abbrev pub BothRead : ℕ → Reader → Reader → Option Table → Option Table → Result ℕ Fault → Type 0
-BothRead n a b t u (Ok r) =
-    (f : Rule) × Added t u f r × (a.start < b.start) × (b.word ≢ Some And)
-    × ((o : Option Rule) (K : Around) → depth K + n ≡ 32
-    → outcome (end_of a) (unread a) (before_part [] o None K) ≡ outcome (end_of a) (unread b) (behind_part o f K))
-BothRead n a b t u (Err e) =
+abbrev pub BothFails : ℕ → Reader → Fault → Type 0
+BothFails n a e =
     (o : Option Rule) (K : Around) → depth K + n ≡ 32 → outcome (end_of a) (unread a) (before_part [] o None K) ≡ Err e
 
+abbrev pub ChoiceFails : ℕ → Reader → Fault → Type 0
+ChoiceFails n a e = (K : Around) → depth K + n ≡ 32 → outcome (end_of a) (unread a) (before_part [] None None K) ≡ Err e
+
+-- `one` with n levels left: from any place before a part it comes behind the part, or to its fault.
+abbrev pub OneRead : ℕ → Parser → Parser → Result ℕ Fault → Type 0
+OneRead n a b (Ok r) =
+    (f : Rule) × Added a.table b.table f r × (a.reader.start < b.reader.start)
+    × ((xs : List Prefix) (o l : Option Rule) (K : Around) → length xs + depth K + n ≡ 32
+    → outcome (end_of a.reader) (unread a.reader) (before_part xs o l K) ≡ outcome (end_of a.reader) (unread b.reader) (part_done xs o l K f))
+OneRead n a b (Err e) = OneFails n a.reader e
+
+-- `both` with n levels left: the parts joined by `&`.
+abbrev pub BothRead : ℕ → Parser → Parser → Result ℕ Fault → Type 0
+BothRead n a b (Ok r) =
+    (f : Rule) × Added a.table b.table f r × (a.reader.start < b.reader.start) × (b.reader.word ≢ Some And)
+    × ((o : Option Rule) (K : Around) → depth K + n ≡ 32
+    → outcome (end_of a.reader) (unread a.reader) (before_part [] o None K) ≡ outcome (end_of a.reader) (unread b.reader) (behind_part o f K))
+BothRead n a b (Err e) = BothFails n a.reader e
+
 -- `choice` with n levels left: a whole rule.
-abbrev pub ChoiceRead : ℕ → Reader → Reader → Option Table → Option Table → Result ℕ Fault → Type 0
-ChoiceRead n a b t u (Ok r) =
-    (o : Option Rule) × (f : Rule) × Added t u (or_with o f) r × (a.start < b.start) × (b.word ≢ Some And) × (b.word ≢ Some Or)
+abbrev pub ChoiceRead : ℕ → Parser → Parser → Result ℕ Fault → Type 0
+ChoiceRead n a b (Ok r) =
+    (o : Option Rule) × (f : Rule) × Added a.table b.table (or_with o f) r × (a.reader.start < b.reader.start) × (b.reader.word ≢ Some And) × (b.reader.word ≢ Some Or)
     × ((K : Around) → depth K + n ≡ 32
-    → outcome (end_of a) (unread a) (before_part [] None None K) ≡ outcome (end_of a) (unread b) (behind_part o f K))
-ChoiceRead n a b t u (Err e) =
-    (K : Around) → depth K + n ≡ 32 → outcome (end_of a) (unread a) (before_part [] None None K) ≡ Err e
+    → outcome (end_of a.reader) (unread a.reader) (before_part [] None None K) ≡ outcome (end_of a.reader) (unread b.reader) (behind_part o f K))
+ChoiceRead n a b (Err e) = ChoiceFails n a.reader e
 
 -- Going past a word that opens or fills a level, with n levels left.
 abbrev pub Enters : ℕ → Reader → Reader → Result (Unit {0}) Fault → Type 0
 Enters n a b (Ok u) = (0 < n) × Stepped a b
 Enters n a b (Err e) = ((n ≡ 0) × (e ≡ fault TooDeep a.start)) ⊎ ((0 < n) × Fails a e)
 
--- The loop of `both`, which began at a, t and v, and has come to b, u and r.
-abbrev pub Joining : ℕ → Reader → Reader → Option Table → Option Table → ℕ → ℕ → Type 0
-Joining n a b t u v r =
-    (t₀ : Option Table) (f₀ : Rule) → Added t₀ t f₀ v
-    → (f : Rule) × Added t₀ u f r
+-- The loop of `both`, which began at a and v, and has come to b and r.
+abbrev pub Joining : ℕ → Parser → Parser → ℕ → ℕ → Type 0
+Joining n a b v r =
+    (t₀ : Option Table) (f₀ : Rule) → Added t₀ a.table f₀ v
+    → (f : Rule) × Added t₀ b.table f r
     × ((o : Option Rule) (K : Around) → depth K + n ≡ 32
-    → outcome (end_of a) (unread a) (behind_part o f₀ K) ≡ outcome (end_of a) (unread b) (behind_part o f K))
+    → outcome (end_of a.reader) (unread a.reader) (behind_part o f₀ K) ≡ outcome (end_of a.reader) (unread b.reader) (behind_part o f K))
 
 -- The loop of `choice`.
-abbrev pub Choosing : ℕ → Reader → Reader → Option Table → Option Table → ℕ → ℕ → Type 0
-Choosing n a b t u v r =
-    (t₀ : Option Table) (o₀ : Option Rule) (f₀ : Rule) → Added t₀ t (or_with o₀ f₀) v
-    → (o : Option Rule) × (f : Rule) × Added t₀ u (or_with o f) r
+abbrev pub Choosing : ℕ → Parser → Parser → ℕ → ℕ → Type 0
+Choosing n a b v r =
+    (t₀ : Option Table) (o₀ : Option Rule) (f₀ : Rule) → Added t₀ a.table (or_with o₀ f₀) v
+    → (o : Option Rule) × (f : Rule) × Added t₀ b.table (or_with o f) r
     × ((K : Around) → depth K + n ≡ 32
-    → outcome (end_of a) (unread a) (behind_part o₀ f₀ K) ≡ outcome (end_of a) (unread b) (behind_part o f K))
+    → outcome (end_of a.reader) (unread a.reader) (behind_part o₀ f₀ K) ≡ outcome (end_of a.reader) (unread b.reader) (behind_part o f K))

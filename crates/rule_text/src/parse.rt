@@ -1,7 +1,5 @@
 // Reading a rule: choice, both and one call each other, as whole rules hold parts and parts hold
 // whole rules.
-ghost use Rattle.rule_text.specs.Descent.{BothRead, ChoiceRead, OneRead, Onward};
-
 use crate::emit::{close_prefix, close_until, emit, open_prefix};
 use crate::fault::Fault;
 use crate::reader::Reader;
@@ -9,80 +7,91 @@ use crate::table::Table;
 use crate::word::Word;
 use tables::row::Operation;
 
-// A part: a word, a prefix with its part, a rule in brackets, or an until.
-// Answers the number of its last row.
-#[cycle(both_choice_one)]
-fn one(r: &mut Reader, t: &mut Option<Table>, levels: u32) -> Result<u8, Fault>
-    ensures on { Onward r.old r.new }
-    ensures reads { OneRead levels r.old r.new t.old t.new result }
-{
-    let Some(word) = r.word else {
-        return Err(r.unfit());
-    };
-    match word {
-        Word::Yes => {
-            r.enter(levels)?;
-            Ok(emit(t, Operation::Yes))
-        }
-        Word::Mark(k) => {
-            r.enter(levels)?;
-            Ok(emit(t, Operation::Mark(k)))
-        }
-        Word::Condition(k) => {
-            r.enter(levels)?;
-            Ok(emit(t, Operation::Condition(k)))
-        }
-        Word::Before(prefix) => {
-            r.enter(levels)?;
-            let first = open_prefix(t, prefix);
-            let part = one(r, t, levels - 1)?;
-            Ok(close_prefix(t, prefix, first, part))
-        }
-        Word::Open => {
-            r.enter(levels)?;
-            let whole = choice(r, t, levels - 1)?;
-            r.take(Word::Close)?;
-            Ok(whole)
-        }
-        Word::Routes(quantifier) => {
-            r.enter(levels)?;
-            r.take(Word::OpenSquare)?;
-            let p = choice(r, t, levels - 1)?;
-            r.take(Word::Until)?;
-            let q = choice(r, t, levels - 1)?;
-            r.take(Word::CloseSquare)?;
-            Ok(close_until(t, quantifier, p, q))
-        }
-        _ => Err(r.unfit()),
-    }
+#[derive(Drop)]
+pub(crate) struct Parser<'a> {
+    pub(crate) reader: Reader<'a>,
+    // Absent once there were more than 32 rows.
+    pub(crate) table: Option<Table>,
 }
 
-// Parts joined by `&`.
-#[cycle(both_choice_one)]
-fn both(r: &mut Reader, t: &mut Option<Table>, levels: u32) -> Result<u8, Fault>
-    ensures on { Onward r.old r.new }
-    ensures reads { BothRead levels r.old r.new t.old t.new result }
-{
-    let mut left = one(r, t, levels)?;
-    while r.has(Word::And) {
-        r.advance()?;
-        let right = one(r, t, levels)?;
-        left = emit(t, Operation::And(left, right));
-    }
-    Ok(left)
-}
+impl Parser<'_> {
+    ghost use Rattle.rule_text.specs.Descent.{BothRead, ChoiceRead, OneRead, Onward};
 
-// A whole rule: what `&` joins, joined by `|`.
-#[cycle(both_choice_one)]
-pub(crate) fn choice(r: &mut Reader, t: &mut Option<Table>, levels: u32) -> Result<u8, Fault>
-    ensures on { Onward r.old r.new }
-    ensures reads { ChoiceRead levels r.old r.new t.old t.new result }
-{
-    let mut left = both(r, t, levels)?;
-    while r.has(Word::Or) {
-        r.advance()?;
-        let right = both(r, t, levels)?;
-        left = emit(t, Operation::Or(left, right));
+    // A part: a word, a prefix with its part, a rule in brackets, or an until.
+    // Answers the number of its last row.
+    #[cycle(both_choice_one)]
+    fn one(&mut self, levels: u32) -> Result<u8, Fault>
+        ensures on { Onward self.old.reader self.new.reader }
+        ensures reads { OneRead levels self.old self.new result }
+    {
+        let Some(word) = self.reader.word else {
+            return Err(self.reader.unfit());
+        };
+        match word {
+            Word::Yes => {
+                self.reader.enter(levels)?;
+                Ok(emit(&mut self.table, Operation::Yes))
+            }
+            Word::Mark(k) => {
+                self.reader.enter(levels)?;
+                Ok(emit(&mut self.table, Operation::Mark(k)))
+            }
+            Word::Condition(k) => {
+                self.reader.enter(levels)?;
+                Ok(emit(&mut self.table, Operation::Condition(k)))
+            }
+            Word::Before(prefix) => {
+                self.reader.enter(levels)?;
+                let first = open_prefix(&mut self.table, prefix);
+                let part = self.one(levels - 1)?;
+                Ok(close_prefix(&mut self.table, prefix, first, part))
+            }
+            Word::Open => {
+                self.reader.enter(levels)?;
+                let whole = self.choice(levels - 1)?;
+                self.reader.take(Word::Close)?;
+                Ok(whole)
+            }
+            Word::Routes(quantifier) => {
+                self.reader.enter(levels)?;
+                self.reader.take(Word::OpenSquare)?;
+                let p = self.choice(levels - 1)?;
+                self.reader.take(Word::Until)?;
+                let q = self.choice(levels - 1)?;
+                self.reader.take(Word::CloseSquare)?;
+                Ok(close_until(&mut self.table, quantifier, p, q))
+            }
+            _ => Err(self.reader.unfit()),
+        }
     }
-    Ok(left)
+
+    // Parts joined by `&`.
+    #[cycle(both_choice_one)]
+    fn both(&mut self, levels: u32) -> Result<u8, Fault>
+        ensures on { Onward self.old.reader self.new.reader }
+        ensures reads { BothRead levels self.old self.new result }
+    {
+        let mut left = self.one(levels)?;
+        while self.reader.has(Word::And) {
+            self.reader.advance()?;
+            let right = self.one(levels)?;
+            left = emit(&mut self.table, Operation::And(left, right));
+        }
+        Ok(left)
+    }
+
+    // A whole rule: what `&` joins, joined by `|`.
+    #[cycle(both_choice_one)]
+    pub(crate) fn choice(&mut self, levels: u32) -> Result<u8, Fault>
+        ensures on { Onward self.old.reader self.new.reader }
+        ensures reads { ChoiceRead levels self.old self.new result }
+    {
+        let mut left = self.both(levels)?;
+        while self.reader.has(Word::Or) {
+            self.reader.advance()?;
+            let right = self.both(levels)?;
+            left = emit(&mut self.table, Operation::Or(left, right));
+        }
+        Ok(left)
+    }
 }

@@ -5,7 +5,7 @@ ghost use Rattle.tables.specs.Tables.{accepted};
 ghost use Rattle.rule_text.specs.Reading.{Answer, Reading, StandsFor, table_rows};
 
 use crate::fault::{Fault, FaultKind};
-use crate::parse::choice;
+use crate::parse::Parser;
 use crate::reader::Reader;
 use crate::table::Table;
 use conditions::set::ConditionSet;
@@ -25,20 +25,17 @@ fn read_table(text: &[u8], conditions: u32) -> Result<Table, Fault>
             byte: MOST_BYTES,
         });
     }
-    let mut r = Reader {
-        text,
-        conditions,
-        word: None,
-        start: text.len(),
-        next: 0,
+    let mut reader = Reader::new(text, conditions);
+    reader.advance()?;
+    let mut parser = Parser {
+        reader,
+        table: Some(Table::new()),
     };
-    r.advance()?;
-    let mut t = Some(Table::new());
-    choice(&mut r, &mut t, MOST_LEVELS)?;
-    if r.word.is_some() {
-        return Err(r.unfit());
+    parser.choice(MOST_LEVELS)?;
+    if parser.reader.word.is_some() {
+        return Err(parser.reader.unfit());
     }
-    t.ok_or(Fault {
+    parser.table.ok_or(Fault {
         kind: FaultKind::TooManyRows,
         byte: text.len(),
     })

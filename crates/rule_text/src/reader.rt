@@ -10,21 +10,37 @@ use crate::word::Word;
 
 #[derive(Drop)]
 pub(crate) struct Reader<'a> {
-    pub(crate) text: &'a [u8],
-    pub(crate) conditions: u32,
+    text: &'a [u8],
+    conditions: u32,
     // The word in hand, absent at the end, and its first byte, or the text's length.
     pub(crate) word: Option<Word>,
-    pub(crate) start: usize,
+    start: usize,
     // The first byte behind it.
-    pub(crate) next: usize,
+    next: usize,
     ghost within: { next ≤ length text.now },
     ghost ended: { word ≡ None → start ≡ length text.now },
     ghost ahead: { (word ≢ None) → start < next },
     ghost limited: { conditions ≤ 16 },
 }
 
-impl Reader<'_> {
+impl<'a> Reader<'a> {
     ghost use Rattle.rule_text.specs.Descent.{Enters, Fails, Onward, Stepped, Takes};
+
+    // A reader before the first word.
+    pub(crate) fn new(text: &'a [u8], conditions: u32) -> Reader<'a>
+        requires { conditions ≤ 16 }
+        ensures text { result.text.now ≡ text.now }
+        ensures conditions { result.conditions ≡ conditions }
+        ensures next { result.next ≡ 0 }
+    {
+        Reader {
+            text,
+            conditions,
+            word: None,
+            start: text.len(),
+            next: 0,
+        }
+    }
 
     // Takes the next word in hand.
     pub(crate) fn advance(&mut self) -> Result<(), Fault>

@@ -1,5 +1,6 @@
 // Telling words apart.
-ghost use Rattle.std.specs.Prelude.{◌≡◌, ℕ, ◌≤◌, min, Some, None, MatchOption};
+ghost use Rattle.std.specs.Prelude.{◌≡◌, ◌≤◌, min};
+ghost use Rattle.std.specs.Option.{option_map};
 ghost use Rattle.rule_text.specs.Words.{named_word, number_below, number_from, number_of, one_byte, tested, two_letters, word_of};
 
 use crate::fault::FaultKind;
@@ -9,8 +10,7 @@ const MARKS: u32 = 32;
 
 // The value of the digits, or 255 where it is more; absent where one of them is no digit.
 fn value(digits: &[u8]) -> Option<u8>
-    ensures { MatchOption result (number_from 0 digits.now ≡ None)
-        (λ v. (n : ℕ) × (number_from 0 digits.now ≡ Some n) × (v ≡ min n 255)) }
+    ensures { result ≡ option_map (λ n. min n 255) (number_from 0 digits.now) }
 {
     let mut value = 0u8;
     for &digit in digits {
@@ -24,8 +24,7 @@ fn value(digits: &[u8]) -> Option<u8>
 
 // The number that the digits write, or 255 where it is more; absent where they write none.
 fn number(digits: &[u8]) -> Option<u8>
-    ensures { MatchOption result (number_of digits.now ≡ None)
-        (λ v. (n : ℕ) × (number_of digits.now ≡ Some n) × (v ≡ min n 255)) }
+    ensures { result ≡ option_map (λ n. min n 255) (number_of digits.now) }
 {
     match digits {
         [] | [b'0', _, ..] => None,

@@ -11,7 +11,8 @@ const MARKS: u8 = 32;
 
 // The operation of a row that stands at number `at` of a table over so many conditions; absent where the row does not fit.
 pub fn read_row(row: Row, at: usize, conditions: u32) -> Option<Operation>
-    ensures { MatchOption result (row_fits conditions at row ≡ false) (λ op. (row_fits conditions at row ≡ true) × (coded op ≡ row)) }
+    ensures { MatchOption result (row_fits conditions at row ≡ false)
+        (λ op. (row_fits conditions at row ≡ true) × (coded op ≡ row)) }
 {
     let p = row.first;
     let q = row.second;

@@ -65,10 +65,10 @@ pub enum Seen {
     Refusals,
 }
 
-const KINDS: usize = 59;
+const KINDS: usize = Seen::Refusals as usize + 1;
 
 // What has to be tried, in the order of the summary.
-const TRIED: [(Seen, &str); 48] = [
+const TRIED: &[(Seen, &str)] = &[
     (Seen::PlainNetworks, "networks of plain sets"),
     (Seen::WordNetworks, "networks of word sets"),
     (Seen::NoPlaces, "networks with no places"),
@@ -126,7 +126,7 @@ const TRIED: [(Seen, &str); 48] = [
 ];
 
 // What may not come, in the order of the summary.
-const WRONG: [(Seen, &str); 11] = [
+const WRONG: &[(Seen, &str)] = &[
     (Seen::WrongPositions, "positions that differ"),
     (Seen::WrongRounds, "rounds that differ"),
     (Seen::WrongVerdicts, "verdicts that differ"),
@@ -151,16 +151,18 @@ impl Tally {
     }
 
     pub fn add(&mut self, what: Seen, more: usize) {
-        let i = what as usize;
-        if i < KINDS {
-            let before = self.counts[i];
-            self.counts[i] = before.wrapping_add(more);
+        if let Some(count) = self.counts.get_mut(what as usize) {
+            *count = count.saturating_add(more);
         }
     }
 
+    // Adds one where it is so.
+    pub fn add_if(&mut self, what: Seen, is_so: bool) {
+        self.add(what, usize::from(is_so));
+    }
+
     fn count(&self, what: Seen) -> usize {
-        let i = what as usize;
-        if i < KINDS { self.counts[i] } else { 0 }
+        self.counts.get(what as usize).copied().unwrap_or(0)
     }
 
     // Prints a line for each count.
@@ -174,21 +176,11 @@ impl Tally {
 
     // Whether something that was to be tried was not.
     pub fn untried(&self) -> bool {
-        for (what, _) in TRIED.iter() {
-            if self.count(*what) == 0 {
-                return true;
-            }
-        }
-        false
+        TRIED.iter().any(|(what, _)| self.count(*what) == 0)
     }
 
     // Whether anything differed.
     pub fn differs(&self) -> bool {
-        for (what, _) in WRONG.iter() {
-            if self.count(*what) != 0 {
-                return true;
-            }
-        }
-        false
+        WRONG.iter().any(|(what, _)| self.count(*what) != 0)
     }
 }

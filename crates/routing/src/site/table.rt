@@ -1,5 +1,6 @@
 // Opening a site table, and the network that it is.
-ghost use Rattle.std.specs.Prelude.{◌≡◌, Some, None, MatchResult, refl};
+ghost use Rattle.std.specs.Prelude.{◌≡◌, IfOk, refl};
+ghost use Rattle.std.specs.Result.{result_err};
 ghost use Rattle.routing.specs.Bindings.{net_of};
 ghost use Rattle.routing.specs.Refusals.{opening};
 ghost use Rattle.routing.specs.Sites.{site_marks, site_meaning, site_records, site_fits};
@@ -47,7 +48,11 @@ const MOST_BINDINGS: usize = 4096;
 impl<'a, S: ConditionSet> SiteTable<'a, S> {
     // Opens a site table on the lent marks and records, which it then means in their order.
     pub fn open(marks: &'a [u32], records: &'a [Binding<S>]) -> Result<SiteTable<'a, S>, Refusal>
-        ensures { MatchResult result (λ t. (opening marks.now records.now ≡ None) × (site_meaning S.ConditionSet.count S.ConditionSet.holds t ≡ net_of S.ConditionSet.count S.ConditionSet.holds marks.now records.now) × (site_marks t ≡ marks.now) × (site_records t ≡ records.now)) (λ e. opening marks.now records.now ≡ Some e) }
+        ensures refusal { result_err result ≡ opening marks.now records.now }
+        ensures meaning { IfOk result (λ t. site_meaning S.ConditionSet.count S.ConditionSet.holds t
+            ≡ net_of S.ConditionSet.count S.ConditionSet.holds marks.now records.now) }
+        ensures marks { IfOk result (λ t. site_marks t ≡ marks.now) }
+        ensures records { IfOk result (λ t. site_records t ≡ records.now) }
     {
         if marks.len() > MOST_PLACES || records.len() > MOST_BINDINGS {
             return Err(Refusal::OverLimit);

@@ -1,9 +1,10 @@
 use Rattle.std.proofs.Common.{◌≡◌, map, get_or, Some, sym, ap, ◌∙◌, ⊎_elim, arith}
 use Rattle.std.specs.List.{slice_get}
 use Rattle.std.proofs.lemmas.Bool.{cases_eq}
+use Rattle.std.proofs.lemmas.List.{length-map}
 use Rattle.judging.specs.Chosen.{same_pos}
 use Rattle.judging.specs.Steps.{as_pos}
-use Rattle.judging.proofs.Seen.{nth_pos, length_pos, index_found, index_none}
+use Rattle.judging.proofs.Seen.{nth_pos, index_found, index_none}
 use Rattle.judging.proofs.always.find_step.Goals as goal
 
 pub returns-then-eq : goal.returns-then-eq
@@ -25,4 +26,4 @@ loop-i-preserved c = λ k y below e.
 
 pub returns : goal.returns
 returns c =
-    sym (index_none (as_pos c.args.at) (map as_pos c.args.seen.now) (λ k z l e. c.loop-i.invariant k z (let n = length_pos c.args.seen.now in omega arith) e))
+    sym (index_none (as_pos c.args.at) (map as_pos c.args.seen.now) (λ k z l e. c.loop-i.invariant k z (let n = length-map c.args.seen.now as_pos in omega arith) e))

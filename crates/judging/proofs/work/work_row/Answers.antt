@@ -7,7 +7,8 @@ use Rattle.rounds.specs.Claims.{Is}
 use Rattle.rounds.specs.Rounds.{Grown, Kept, LeastStable, Decided}
 use Rattle.rounds.proofs.Exact.{until_exact, always_exact}
 use Rattle.judging.specs.Judged.{covers}
-use Rattle.judging.proofs.Rows.{guard_true, guard_behind, or_same, and_same, setting_below, named_shape, named_rounds, decided_like}
+use Rattle.std.proofs.Math.Bool.{and_self, or_self}
+use Rattle.judging.proofs.Rows.{guard_true, guard_behind, setting_below, named_shape, named_rounds, decided_like}
 use Rattle.judging.proofs.work.work_row.Goals as goal
 
 self : (N : Net) (p : Pos → Bool) → Decided N p (Is p)
@@ -96,7 +97,7 @@ returns-in-And g c =
     let q = covers holds c.args.second.now in
     let made : (x : Pos) → Within N x → b x ≡ (p x && q x) = λ x w.
     c.combine.ensures.after (λ s t u. s && (t || u)) (λ s t u v post a. search rules) x (let l = w.place_in in omega arith)
-    ∙ ap (λ t. covers holds c.copy_from_slice-in-And.new.self x && t) (or_same (q x))
+    ∙ ap (λ t. covers holds c.copy_from_slice-in-And.new.self x && t) (or_self (q x))
     ∙ ap (λ (xs : List g.row.N-Set.Denot). covers holds xs x && q x) c.copy_from_slice-in-And.ensures.after in
     record {
       few = (omega arith);
@@ -118,7 +119,7 @@ returns-in-Or g c =
     let q = covers holds c.args.second.now in
     let made : (x : Pos) → Within N x → b x ≡ (p x || q x) = λ x w.
     c.combine-in-Or.ensures.after (λ s t u. s || (t && u)) (λ s t u v post a. search rules) x (let l = w.place_in in omega arith)
-    ∙ ap (λ t. covers holds c.copy_from_slice-in-Or.new.self x || t) (and_same (q x))
+    ∙ ap (λ t. covers holds c.copy_from_slice-in-Or.new.self x || t) (and_self (q x))
     ∙ ap (λ (xs : List g.row.N-Set.Denot). covers holds xs x || q x) c.copy_from_slice-in-Or.ensures.after in
     record {
       few = (omega arith);

@@ -18,9 +18,9 @@ returns-in-Ok g c =
     let rows : List Row = table_rows c.args.table.now in
     let e = c.in-Ok.ensures in
     let told : Told N (Means N (rule_at rows (length rows - 1))) v =
-    subst (λ (table : List Row). Told N (Means N (rule_at table (length table - 1))) v) c.rows.ensures e.2 in
+    subst (λ (table : List Row). Told N (Means N (rule_at table (length table - 1))) v) c.rows.ensures e.told in
     let counted : RoundsBefore N rows (length rows) rounds =
-    subst (λ (table : List Row). RoundsBefore N table (length table) rounds) c.rows.ensures e.1.counted in
+    subst (λ (table : List Row). RoundsBefore N table (length table) rounds) c.rows.ensures e.judged.counted in
     record {
       line = verdict_line c.args.rule v rounds;
       short = c.add_verdict.ensures.short;
@@ -36,6 +36,6 @@ returns-in_default g c =
     let none : judge_refusal N c.rows.result.now main spare ≡ None =
     subst (λ (table : List Row). judge_refusal N table main spare ≡ None) (sym c.rows.ensures)
     (never_refused N (table_rows c.args.table.now) main spare (g.N.Network.fits c.args.net.now) c.requires.taken (omega arith) (omega arith)) in
-    let refused = c.in_default.ensures.0 in
+    let refused = c.in_default.ensures.refusal in
     let z : ◌≡◌ {A = ℕ} 0 1 = cc in
     absurd (omega arith)

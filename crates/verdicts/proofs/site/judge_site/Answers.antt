@@ -8,4 +8,4 @@ use Rattle.verdicts.proofs.site.judge_site.Goals as goal
 pub returns-clause-told : goal.returns-clause-told
 returns-clause-told g c =
     let rows = c.args.table.now in
-    subst (λ (N : Net). IfOk c.judge_entries.result (λ j. Told N (Means N (rule_at rows (length rows - 1))) j.verdict)) c.in_ok-site.ensures.1 c.judge_entries.ensures.told
+    subst (λ (N : Net). IfOk c.judge_entries.result (λ j. Told N (Means N (rule_at rows (length rows - 1))) j.verdict)) c.in_ok-site.ensures.meaning c.judge_entries.ensures.told

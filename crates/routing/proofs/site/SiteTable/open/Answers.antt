@@ -17,14 +17,14 @@ ends_decide marks records b few_marks few_records e =
     cond-false (ltb 256 (length marks) || ltb 4096 (length records)) (Some OverLimit) _ (or_from _ _ (le-ltb 256 (length marks) few_marks) (le-ltb 4096 (length records) few_records))
     ∙ ap (λ t. cond t None (Some NoPlace)) e
 
-pub returns-then-from-marks : goal.returns-then-from-marks
-returns-then-from-marks g c =
+pub returns-then-from-marks-clause-refusal : goal.returns-then-from-marks-clause-refusal
+returns-then-from-marks-clause-refusal g c =
     let x = c.b-item.result in
     let read : slice_get c.args.records.now c.loop-b.b-index ≡ Some x = slice_get_read _ _ _ x refl c.loop-b-test.true c.b-item.is in
     let n : ℕ = length c.args.marks.now in
     let out : (n ≤ x.from) ⊎ (n ≤ x.to) = elim c.then-from-marks.branch [ then-from-marks-via-then-from-marks w ↦ inl (omega arith) | then-from-marks-via-else-from-marks+then-from-marks-2 w ↦ inr (omega arith) ] in
-    ends_decide c.args.marks.now c.args.records.now false c.if-marks-gt-MOST_PLACES.false c.if-records-gt-MOST_BINDINGS.false
-    (inside_fails n c.args.records.now c.loop-b.b-index x read out)
+    sym (ends_decide c.args.marks.now c.args.records.now false c.if-marks-gt-MOST_PLACES.false c.if-records-gt-MOST_BINDINGS.false
+    (inside_fails n c.args.records.now c.loop-b.b-index x read out))
 
 pub loop-b-preserved : goal.loop-b-preserved
 loop-b-preserved g c =
@@ -43,11 +43,7 @@ invariant_of-result g c = record {
   ends = whole _ c.loop-b.b-index c.args.records.now c.loop-b-test.false c.loop-b.invariant;
 }
 
-pub returns : goal.returns
-returns g c = (
-  ends_decide c.args.marks.now c.args.records.now true c.if-marks-gt-MOST_PLACES.false c.if-records-gt-MOST_BINDINGS.false
-      (whole _ c.loop-b.b-index c.args.records.now c.loop-b-test.false c.loop-b.invariant),
-  refl,
-  refl,
-  refl,
-)
+pub returns-clause-refusal : goal.returns-clause-refusal
+returns-clause-refusal g c =
+    sym (ends_decide c.args.marks.now c.args.records.now true c.if-marks-gt-MOST_PLACES.false c.if-records-gt-MOST_BINDINGS.false
+    (whole _ c.loop-b.b-index c.args.records.now c.loop-b-test.false c.loop-b.invariant))

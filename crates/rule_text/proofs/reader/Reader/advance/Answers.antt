@@ -14,9 +14,13 @@ returns-then-start-self-clause-step c = record {
 
 pub returns-in_err-word-clause-step : goal.returns-in_err-word-clause-step
 returns-in_err-word-clause-step c =
-    let bad_word : item_of c.skip_spaces-start.result c.read_word.result ≡ bad c.in_err-word.field-0.0 = grind (arith, common_steps, c.in_err-word.ensures, c.in_err-word.was) in
-    left_with (λ r. MatchResult r (λ _. Stepped c.args.self.now c.args.self.now) (Fails c.args.self.now)) c.from_residual.result c.in_err-word.field-0.0 c.from_residual.ensures.1 (
+    let bad_word : item_of c.skip_spaces-start.result c.read_word.result ≡ bad c.in_err-word.field-0.0 = grind
+    (arith, common_steps, c.in_err-word.ensures, c.in_err-word.was) in
+    left_with (λ r. MatchResult r (λ _. Stepped c.args.self.now c.args.self.now) (Fails c.args.self.now)) c.from_residual.result
+    c.in_err-word.field-0.0 c.from_residual.ensures.1 (
       _,
-      items_word c.args.self.now.conditions c.args.self.now.text.now c.args.self.now.next c.skip_spaces-start.result c.word_end-end.result c.read_word.result
-          c.skip_spaces-start.ensures.same c.word_end-end.ensures.word c.read_word.ensures ∙ ap (λ i. i ∷ items c.args.self.now.conditions c.args.self.now.text.now c.word_end-end.result) bad_word,
+      items_word c.args.self.now.conditions c.args.self.now.text.now c.args.self.now.next c.skip_spaces-start.result c.word_end-end.result
+          c.read_word.result
+          c.skip_spaces-start.ensures.same c.word_end-end.ensures.word c.read_word.ensures ∙ ap
+          (λ i. i ∷ items c.args.self.now.conditions c.args.self.now.text.now c.word_end-end.result) bad_word,
     )
