@@ -27,50 +27,22 @@ fn check_verdict(
 
 #[test]
 fn trial_network_p(rt: HostRuntime) -> Result<(), Fail> {
-    check_verdict(
-        &rt,
-        &networks::p_marks(),
-        &networks::p_bindings(),
-        &networks::AF_M1.map(Row::from),
-        Verdict::Breaks(0, 0),
-        1,
-    )?;
-    check_verdict(
-        &rt,
-        &networks::p_marks(),
-        &networks::p_bindings(),
-        &networks::EF_M1_OR_NOT_C0.map(Row::from),
-        Verdict::Holds,
-        1,
-    )
+    let (marks, records) = (networks::p_marks(), networks::p_bindings());
+    let table = networks::AF_M1.map(Row::from);
+    check_verdict(&rt, &marks, &records, &table, Verdict::Breaks(0, 0), 1)?;
+    let table = networks::EF_M1_OR_NOT_C0.map(Row::from);
+    check_verdict(&rt, &marks, &records, &table, Verdict::Holds, 1)
 }
 
 #[test]
 fn trial_network_l(rt: HostRuntime) -> Result<(), Fail> {
-    check_verdict(
-        &rt,
-        &networks::l_marks(),
-        &networks::l_bindings(),
-        &networks::AF_M1.map(Row::from),
-        Verdict::Breaks(0, 0),
-        1,
-    )?;
-    check_verdict(
-        &rt,
-        &networks::l_marks(),
-        &networks::l_bindings(),
-        &networks::AG_EF_M1.map(Row::from),
-        Verdict::Holds,
-        3,
-    )?;
-    check_verdict(
-        &rt,
-        &networks::l_marks(),
-        &networks::l_bindings(),
-        &networks::EF_M1.map(Row::from),
-        Verdict::Holds,
-        3,
-    )
+    let (marks, records) = (networks::l_marks(), networks::l_bindings());
+    let table = networks::AF_M1.map(Row::from);
+    check_verdict(&rt, &marks, &records, &table, Verdict::Breaks(0, 0), 1)?;
+    let table = networks::AG_EF_M1.map(Row::from);
+    check_verdict(&rt, &marks, &records, &table, Verdict::Holds, 3)?;
+    let table = networks::EF_M1.map(Row::from);
+    check_verdict(&rt, &marks, &records, &table, Verdict::Holds, 3)
 }
 
 // A list that is too short is refused, and nothing is written.
