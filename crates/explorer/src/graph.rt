@@ -1,155 +1,174 @@
 // The positions of a network with their steps.
 //
-// A position is a place with a setting. Positions are numbered: place × settings + setting. A set of
-// positions is a list with a truth value for each number.
+// A position is a place with a setting. Positions are numbered: place × settings + setting.
+ghost use Rattle.std.specs.Prelude.{◌≤◌};
+
+use crate::positions::PositionSet;
 use conditions::set::ConditionSet;
 use routing::network::Network;
 use std::alloc::{AllocError, Global};
+use std::ops::Range;
+
+#[derive(Drop)]
+struct Place {
+    marks: u32,
+    // The positions from which a step leads to the place, whatever setting comes next.
+    before: PositionSet,
+}
 
 #[derive(Drop)]
 pub struct Graph {
-    marks: Vec<u32>,
+    heap: Global,
     conditions: u32,
-    size: usize,
-    // Whether a step leads from a position to a place, whatever setting comes next: at position × places + place.
-    steps: Vec<bool>,
+    places: Vec<Place>,
+    everywhere: PositionSet,
+    nowhere: PositionSet,
+    ghost few: { conditions ≤ 16 },
 }
 
 impl Graph {
-    // The graph of a network.
+    // The graph of a network; the sets of its positions are made on the heap.
     pub fn of<N: Network>(heap: Global, net: &N) -> Result<Graph, AllocError> {
-        let places = net.places();
         let conditions = net.conditions();
-        let size = places.checked_shl(conditions).unwrap_or(0);
-        let mut marks = vec![in heap; 0; places]?;
-        for place in 0..places {
-            if let Some(slot) = marks.get_mut(place) {
-                *slot = net.marks(place).unwrap_or(0);
+        let size = net.places() << conditions;
+        let mut places = Vec::new(heap);
+        for place in 0..net.places() {
+            let marks = net.marks(place).unwrap_or(0);
+            let before = PositionSet::of(heap, size, |_| false)?;
+            places.push(Place { marks, before })?;
+        }
+        let mut graph = Graph {
+            heap,
+            conditions,
+            places,
+            everywhere: PositionSet::of(heap, size, |_| true)?,
+            nowhere: PositionSet::new(heap),
+        };
+        graph.add_steps(net);
+        Ok(graph)
+    }
+
+    // Adds the steps of each binding.
+    fn add_steps<N: Network>(&mut self, net: &N) {
+        for b in (0..net.bindings()).filter_map(|number| net.binding(number)) {
+            for setting in (0..self.settings()).filter(|setting| b.set.contains(*setting)) {
+                let from = self.number(usize::from(b.from), setting);
+                if let Some(place) = self.places.get_mut(usize::from(b.to)) {
+                    place.before.insert(from);
+                }
             }
         }
-        let mut steps = vec![in heap; false; size.wrapping_mul(places)]?;
-        put_steps(net, &mut steps);
-        Ok(Graph {
-            marks,
-            conditions,
-            size,
-            steps,
-        })
+    }
+
+    pub fn heap(&self) -> Global {
+        self.heap
     }
 
     pub fn places(&self) -> usize {
-        self.marks.len()
+        self.places.len()
     }
 
     pub fn settings(&self) -> u32 {
-        1u32.checked_shl(self.conditions).unwrap_or(0)
+        1 << self.conditions
     }
 
     // How many positions there are.
     pub fn size(&self) -> usize {
-        self.size
+        self.places() << self.conditions
     }
 
     pub fn number(&self, place: usize, setting: u32) -> usize {
-        let first = place.checked_shl(self.conditions).unwrap_or(0);
-        first.wrapping_add(setting as usize)
+        (place << self.conditions) | setting as usize
     }
 
     // The place of the position with a number.
     pub fn place_of(&self, number: usize) -> usize {
-        number.checked_shr(self.conditions).unwrap_or(0)
+        number >> self.conditions
     }
 
     // The setting of the position with a number.
     pub fn setting_of(&self, number: usize) -> u32 {
-        let low = (number & 0xFFFF) as u32;
-        low.checked_rem(self.settings()).unwrap_or(0)
+        (number % (1 << self.conditions)) as u32
     }
 
-    // Whether a place has mark k.
-    pub fn has_mark(&self, place: usize, k: u8) -> bool {
-        is_on(self.marks.get(place).copied().unwrap_or(0), k)
+    // The positions of a place.
+    pub fn positions_of(&self, place: usize) -> Range<usize> {
+        self.number(place, 0)..self.number(place.saturating_add(1), 0)
+    }
+
+    // Whether the place of a position has mark k.
+    pub fn has_mark(&self, position: usize, k: u8) -> bool {
+        self.places
+            .get(self.place_of(position))
+            .is_some_and(|place| is_on(place.marks, k))
+    }
+
+    // Whether condition k is on at a position.
+    pub fn has_condition(&self, position: usize, k: u8) -> bool {
+        is_on(self.setting_of(position), k)
     }
 
     // Whether a step leads from a position to a place.
     pub fn leads(&self, from: usize, place: usize) -> bool {
-        has(
-            &self.steps,
-            from.wrapping_mul(self.marks.len()).wrapping_add(place),
-        )
-    }
-
-    // Whether some step leads from a position into a set.
-    pub fn steps_into(&self, from: usize, set: &[bool]) -> bool {
-        for place in 0..self.marks.len() {
-            if self.leads(from, place) {
-                for to in self.number(place, 0)..self.number(place.wrapping_add(1), 0) {
-                    if has(set, to) {
-                        return true;
-                    }
-                }
-            }
-        }
-        false
-    }
-
-    // Whether some step leads from a position to one that a set does not have.
-    pub fn steps_out_of(&self, from: usize, set: &[bool]) -> bool {
-        for place in 0..self.marks.len() {
-            if self.leads(from, place) {
-                for to in self.number(place, 0)..self.number(place.wrapping_add(1), 0) {
-                    if !has(set, to) {
-                        return true;
-                    }
-                }
-            }
-        }
-        false
+        self.places
+            .get(place)
+            .is_some_and(|place| place.before.contains(from))
     }
 
     // Whether no step leads from a position.
     pub fn rests(&self, position: usize) -> bool {
-        for place in 0..self.marks.len() {
-            if self.leads(position, place) {
-                return false;
-            }
-        }
-        true
+        !self
+            .places
+            .iter()
+            .any(|place| place.before.contains(position))
+    }
+
+    // The first position that a step leads to and that passes a test.
+    pub fn successor_where<F: Fn(usize) -> bool>(&self, from: usize, test: F) -> Option<usize>
+        requires { F.IsAlwaysCallable test }
+    {
+        (0..self.places())
+            .filter(|place| self.leads(from, *place))
+            .flat_map(|place| self.positions_of(place))
+            .find(|to| test(*to))
+    }
+
+    // Whether some step leads from a position to one that passes a test.
+    pub fn leads_to<F: Fn(usize) -> bool>(&self, from: usize, test: F) -> bool
+        requires { F.IsAlwaysCallable test }
+    {
+        self.successor_where(from, test).is_some()
+    }
+
+    // Whether some step leads from a position into a set.
+    pub fn leads_into(&self, from: usize, set: &PositionSet) -> bool {
+        self.leads_to(from, |to| set.contains(to))
+    }
+
+    // The positions that pass a test.
+    pub fn positions_where<F: Fn(usize) -> bool>(&self, test: F) -> Result<PositionSet, AllocError>
+        requires { F.IsAlwaysCallable test }
+    {
+        PositionSet::of(self.heap, self.size(), test)
+    }
+
+    // The positions that a set does not have.
+    pub fn complement(&self, set: &PositionSet) -> Result<PositionSet, AllocError> {
+        self.positions_where(|at| !set.contains(at))
+    }
+
+    // The set of all positions.
+    pub fn everywhere(&self) -> &PositionSet {
+        &self.everywhere
+    }
+
+    // The set of no positions.
+    pub fn nowhere(&self) -> &PositionSet {
+        &self.nowhere
     }
 }
 
 // Whether bit k is 1.
-pub fn is_on(bits: u32, k: u8) -> bool {
+fn is_on(bits: u32, k: u8) -> bool {
     bits.checked_shr(u32::from(k)).unwrap_or(0) & 1 == 1
-}
-
-// Whether a set has a position.
-pub fn has(set: &[bool], position: usize) -> bool {
-    set.get(position).copied().unwrap_or(false)
-}
-
-// Puts a position into a set.
-pub fn put(set: &mut [bool], position: usize) {
-    if position < set.len() {
-        set[position] = true;
-    }
-}
-
-// Puts the steps of each binding.
-fn put_steps<N: Network>(net: &N, steps: &mut [bool]) {
-    let conditions = net.conditions();
-    for number in 0..net.bindings() {
-        if let Some(b) = net.binding(number) {
-            let first = (b.from as usize).checked_shl(conditions).unwrap_or(0);
-            for setting in 0..1u32.checked_shl(conditions).unwrap_or(0) {
-                if b.set.contains(setting) {
-                    let row = first.wrapping_add(setting as usize);
-                    put(
-                        steps,
-                        row.wrapping_mul(net.places()).wrapping_add(b.to as usize),
-                    );
-                }
-            }
-        }
-    }
 }

@@ -6,6 +6,7 @@
 
 pub mod always;
 pub mod graph;
+pub mod positions;
 pub mod rounds;
 pub mod rows;
 pub mod until;

@@ -1,115 +1,101 @@
 // The rows of a table, one after the other.
 use crate::always::holds_always;
-use crate::graph::{Graph, has, is_on, put};
-use crate::rounds::{Round, settle_rounds};
+use crate::graph::Graph;
+use crate::positions::PositionSet;
+use crate::rounds::{Settled, settle_rounds};
 use crate::until::holds_until;
-use std::alloc::{AllocError, Global};
-use tables::row::Row;
+use std::alloc::AllocError;
+use tables::row::Operation;
 
 // What the explorer found of a row.
 #[derive(Drop)]
 pub struct Found {
-    pub row: Row,
+    pub operation: Operation,
     // The positions where the row holds.
-    pub held: Vec<bool>,
+    pub held: PositionSet,
     pub rounds: usize,
     // Whether the set that the rounds end with is the one that was explored.
     pub agrees: bool,
 }
 
-// Whether a row that has no rounds holds at a position, from the positions of its operands.
-fn holds_at(graph: &Graph, row: Row, p: &[bool], q: &[bool], position: usize) -> bool {
-    match row.operation {
-        0 => true,
-        1 => graph.has_mark(graph.place_of(position), row.first),
-        2 => is_on(graph.setting_of(position), row.first),
-        3 => !has(p, position),
-        4 => has(p, position) && has(q, position),
-        5 => has(p, position) || has(q, position),
-        _ => graph.steps_into(position, p),
-    }
+// The positions of an earlier row.
+pub fn operand<'a>(graph: &'a Graph, rows: &'a [Found], number: u8) -> &'a PositionSet {
+    rows.get(usize::from(number))
+        .map_or(graph.nowhere(), |row| &row.held)
 }
 
-// Works a row that has no rounds.
-fn work_plain(
-    heap: Global,
-    graph: &Graph,
-    row: Row,
-    p: &[bool],
-    q: &[bool],
-) -> Result<Found, AllocError> {
-    let mut held = vec![in heap; false; graph.size()]?;
-    for position in 0..graph.size() {
-        if holds_at(graph, row, p, q, position) {
-            put(&mut held, position);
+// The positions where a row holds, from the rows before it.
+fn explore(graph: &Graph, rows: &[Found], operation: Operation) -> Result<PositionSet, AllocError> {
+    let of = |number: u8| operand(graph, rows, number);
+    match operation {
+        Operation::Yes => graph.positions_where(|_| true),
+        Operation::Mark(k) => graph.positions_where(|at| graph.has_mark(at, k)),
+        Operation::Condition(k) => graph.positions_where(|at| graph.has_condition(at, k)),
+        Operation::Not(p) => graph.complement(of(p)),
+        Operation::And(p, q) => {
+            graph.positions_where(|at| of(p).contains(at) && of(q).contains(at))
         }
+        Operation::Or(p, q) => {
+            graph.positions_where(|at| of(p).contains(at) || of(q).contains(at))
+        }
+        Operation::Next(p) => graph.positions_where(|at| graph.leads_into(at, of(p))),
+        Operation::Until(p, q) => holds_until(graph, of(p), of(q)),
+        Operation::Always(p) => holds_always(graph, of(p)),
     }
-    Ok(Found {
-        row,
-        held,
-        rounds: 0,
-        agrees: true,
-    })
 }
 
-// Works a row with a set that was explored, counting the rounds from T(0).
-fn work_rounds(
-    heap: Global,
+// The rounds of a row from T(0); absent where it has none.
+//
+// A round of until adds the positions with p that have a step into the set; one of always takes away the positions
+// that have steps but none into it.
+fn settle(
     graph: &Graph,
-    row: Row,
-    p: &[bool],
-    q: &[bool],
-) -> Result<Found, AllocError> {
-    let (held, settled) = if row.operation == 7 {
-        (
-            holds_until(heap, graph, p, q)?,
-            settle_rounds(heap, graph, Round::Grows, p, q)?,
-        )
-    } else {
-        (
-            holds_always(heap, graph, p)?,
-            settle_rounds(heap, graph, Round::Shrinks, p, p)?,
-        )
+    rows: &[Found],
+    operation: Operation,
+) -> Result<Option<Settled>, AllocError> {
+    let of = |number: u8| operand(graph, rows, number);
+    let settled = match operation {
+        Operation::Until(p, q) => settle_rounds(
+            graph,
+            of(q),
+            |at, set| set.contains(at) || (of(p).contains(at) && graph.leads_into(at, set)),
+        )?,
+        Operation::Always(p) => settle_rounds(
+            graph,
+            of(p),
+            |at, set| set.contains(at) && (graph.leads_into(at, set) || graph.rests(at)),
+        )?,
+        _ => return Ok(None),
     };
-    let agrees = held.as_slice() == settled.set.as_slice();
+    Ok(Some(settled))
+}
+
+// Works a row, from the rows before it.
+fn work_row(graph: &Graph, rows: &[Found], operation: Operation) -> Result<Found, AllocError> {
+    let held = explore(graph, rows, operation)?;
+    let (rounds, agrees) = match settle(graph, rows, operation)? {
+        Some(settled) => (settled.rounds, settled.set == held),
+        None => (0, true),
+    };
     Ok(Found {
-        row,
+        operation,
         held,
-        rounds: settled.rounds,
+        rounds,
         agrees,
     })
 }
 
-// The positions of an earlier row.
-pub fn operand(rows: &Vec<Found>, number: u8) -> &[bool] {
-    match rows.get(number as usize) {
-        Some(row) => row.held.as_slice(),
-        None => &[],
-    }
-}
-
 // Works every row of a table.
-pub fn work_rows(heap: Global, graph: &Graph, table: &[Row]) -> Result<Vec<Found>, AllocError> {
-    let mut rows = Vec::new(heap);
-    for row in table {
-        let p = operand(&rows, row.first);
-        let q = operand(&rows, row.second);
-        let found = if row.operation == 7 || row.operation == 8 {
-            work_rounds(heap, graph, *row, p, q)?
-        } else {
-            work_plain(heap, graph, *row, p, q)?
-        };
+pub fn work_rows(graph: &Graph, table: &[Operation]) -> Result<Vec<Found>, AllocError> {
+    let mut rows = Vec::new(graph.heap());
+    for operation in table {
+        let found = work_row(graph, &rows, *operation)?;
         rows.push(found)?;
     }
     Ok(rows)
 }
 
 // The least position at an entry where the set fails; absent where it holds at every entry.
-pub fn failing_entry(graph: &Graph, held: &[bool]) -> Option<usize> {
-    for position in 0..graph.size() {
-        if graph.has_mark(graph.place_of(position), 0) && !has(held, position) {
-            return Some(position);
-        }
-    }
-    None
+pub fn failing_entry(graph: &Graph, held: &PositionSet) -> Option<usize> {
+    (0..graph.size()).find(|at| graph.has_mark(*at, 0) && !held.contains(*at))
 }

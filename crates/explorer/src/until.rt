@@ -1,6 +1,8 @@
 // Some route to q, with p at every position before: breadth first, backwards and forwards.
-use crate::graph::{Graph, has, put};
-use std::alloc::{AllocError, Global};
+use crate::graph::Graph;
+use crate::positions::PositionSet;
+use std::alloc::AllocError;
+use std::collections::VecDeque;
 
 // A position that a walk came to, and the hops between its start and there.
 #[derive(Clone, Copy)]
@@ -9,56 +11,56 @@ struct Reached {
     hops: usize,
 }
 
-// The positions that a walk came to, each once, in the order of coming.
+// The positions that a walk came to, each once, and those of them that it has still to go on from, in the order of coming.
 #[derive(Drop)]
-struct Queue {
-    seen: Vec<bool>,
-    list: Vec<Reached>,
-    count: usize,
+struct Walk {
+    seen: PositionSet,
+    queue: VecDeque<Reached>,
 }
 
-impl Queue {
-    // A queue with room for every position.
-    fn new(heap: Global, size: usize) -> Result<Queue, AllocError> {
-        let seen = vec![in heap; false; size]?;
-        let none = Reached {
-            position: 0,
-            hops: 0,
-        };
-        let list = vec![in heap; none; size]?;
-        Ok(Queue {
-            seen,
-            list,
-            count: 0,
+impl Walk {
+    fn new(graph: &Graph) -> Result<Walk, AllocError> {
+        Ok(Walk {
+            seen: graph.positions_where(|_| false)?,
+            queue: VecDeque::new(graph.heap()),
         })
     }
 
-    // Adds a position that the walk has not come to before.
-    fn add(&mut self, position: usize, hops: usize) {
-        if !has(&self.seen, position) {
-            put(&mut self.seen, position);
-            if let Some(slot) = self.list.get_mut(self.count) {
-                *slot = Reached { position, hops };
+    // Adds a position, if the walk has not come to it before.
+    fn add(&mut self, position: usize, hops: usize) -> Result<(), AllocError> {
+        if !self.seen.contains(position) {
+            self.seen.insert(position);
+            self.queue.push_back(Reached { position, hops })?;
+        }
+        Ok(())
+    }
+
+    // Adds the positions with p that have a step to a place.
+    fn add_before(
+        &mut self,
+        graph: &Graph,
+        p: &PositionSet,
+        place: usize,
+        hops: usize,
+    ) -> Result<(), AllocError> {
+        for from in 0..graph.size() {
+            if p.contains(from) && graph.leads(from, place) {
+                self.add(from, hops)?;
             }
-            self.count = self.count.wrapping_add(1);
         }
+        Ok(())
     }
 
-    fn get(&self, at: usize) -> Option<Reached> {
-        if at < self.count {
-            self.list.get(at).copied()
-        } else {
-            None
+    // Adds the successors of a position.
+    fn add_after(&mut self, graph: &Graph, from: Reached) -> Result<(), AllocError> {
+        for place in 0..graph.places() {
+            if graph.leads(from.position, place) {
+                for to in graph.positions_of(place) {
+                    self.add(to, from.hops.saturating_add(1))?;
+                }
+            }
         }
-    }
-}
-
-// Adds the positions with p that have a step to a place.
-fn queue_before(graph: &Graph, p: &[bool], place: usize, hops: usize, queue: &mut Queue) {
-    for from in 0..graph.size() {
-        if has(p, from) && graph.leads(from, place) {
-            queue.add(from, hops);
-        }
+        Ok(())
     }
 }
 
@@ -66,60 +68,50 @@ fn queue_before(graph: &Graph, p: &[bool], place: usize, hops: usize, queue: &mu
 //
 // The same positions have a step to every position of a place, so each place is gone back from once.
 pub fn holds_until(
-    heap: Global,
     graph: &Graph,
-    p: &[bool],
-    q: &[bool],
-) -> Result<Vec<bool>, AllocError> {
-    let mut queue = Queue::new(heap, graph.size())?;
-    let mut done = vec![in heap; false; graph.places()]?;
+    p: &PositionSet,
+    q: &PositionSet,
+) -> Result<PositionSet, AllocError> {
+    let mut walk = Walk::new(graph)?;
+    let mut done = vec![in graph.heap(); false; graph.places()]?;
     for position in 0..graph.size() {
-        if has(q, position) {
-            queue.add(position, 0);
+        if q.contains(position) {
+            walk.add(position, 0)?;
         }
     }
-    for at in 0..graph.size() {
-        if let Some(to) = queue.get(at) {
-            let place = graph.place_of(to.position);
-            if !has(&done, place) {
-                put(&mut done, place);
-                queue_before(graph, p, place, to.hops.wrapping_add(1), &mut queue);
+    for _ in 0..graph.size() {
+        let Some(to) = walk.queue.pop_front() else {
+            break;
+        };
+        let place = graph.place_of(to.position);
+        if let Some(done) = done.get_mut(place) {
+            if !*done {
+                *done = true;
+                walk.add_before(graph, p, place, to.hops.saturating_add(1))?;
             }
         }
     }
-    Vec::from_slice(heap, &queue.seen)
-}
-
-// Adds the successors of a position.
-fn queue_after(graph: &Graph, from: Reached, queue: &mut Queue) {
-    for place in 0..graph.places() {
-        if graph.leads(from.position, place) {
-            for setting in 0..graph.settings() {
-                queue.add(graph.number(place, setting), from.hops.wrapping_add(1));
-            }
-        }
-    }
+    Ok(walk.seen)
 }
 
 // The fewest hops from a position to one with q, with p at every position before it; absent where no route is one.
 pub fn hops_to(
-    heap: Global,
     graph: &Graph,
-    p: &[bool],
-    q: &[bool],
+    p: &PositionSet,
+    q: &PositionSet,
     start: usize,
 ) -> Result<Option<usize>, AllocError> {
-    let mut queue = Queue::new(heap, graph.size())?;
-    queue.add(start, 0);
-    for at in 0..graph.size() {
-        let Some(from) = queue.get(at) else {
+    let mut walk = Walk::new(graph)?;
+    walk.add(start, 0)?;
+    for _ in 0..graph.size() {
+        let Some(from) = walk.queue.pop_front() else {
             break;
         };
-        if has(q, from.position) {
+        if q.contains(from.position) {
             return Ok(Some(from.hops));
         }
-        if has(p, from.position) {
-            queue_after(graph, from, &mut queue);
+        if p.contains(from.position) {
+            walk.add_after(graph, from)?;
         }
     }
     Ok(None)

@@ -12,7 +12,7 @@ const MOST_BINDINGS: usize = 30;
 
 // The marks of the places, and the bindings.
 #[derive(Drop)]
-pub struct Drawn<S: Drop> {
+pub struct Drawn<S> {
     pub marks: Vec<u32>,
     pub bindings: Vec<Binding<S>>,
 }
@@ -47,20 +47,20 @@ fn draw_marks(heap: Global, random: &mut Random) -> Result<Vec<u32>, AllocError>
 }
 
 fn draw_place(random: &mut Random, places: usize) -> u16 {
-    (random.below(places) & 0xFFFF) as u16
+    u16::try_from(random.below(places)).unwrap_or(0)
 }
 
 // The ends of the binding at a number.
-fn draw_ends(random: &mut Random, places: usize, shape: Shape, number: usize) -> (u16, u16) {
+fn draw_ends(random: &mut Random, places: usize, shape: Shape, number: u16) -> (u16, u16) {
     let from = draw_place(random, places);
     match shape {
         Shape::Scattered => (from, draw_place(random, places)),
         Shape::Chain => {
-            let link = (number & 0xFF) as u16;
-            if number.saturating_add(1) < places {
-                (link, link.wrapping_add(1))
+            let next = number.saturating_add(1);
+            if usize::from(next) < places {
+                (number, next)
             } else {
-                (from, draw_place(random, from as usize + 1))
+                (from, draw_place(random, usize::from(from) + 1))
             }
         }
     }
@@ -98,7 +98,7 @@ fn draw_bindings<S: Draw>(
     } else {
         draw_count(random, places, shape)
     };
-    for number in 0..count {
+    for number in 0..u16::try_from(count).unwrap_or(0) {
         let (from, to) = draw_ends(random, places, shape, number);
         let set = S::draw(random);
         bindings.push(Binding { from, to, set })?;

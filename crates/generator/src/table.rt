@@ -1,12 +1,9 @@
 // Drawn rule tables, which judging accepts.
 use crate::random::Random;
 use std::alloc::{AllocError, Global};
-use tables::row::Row;
+use tables::row::Operation;
 
 const MOST_ROWS: usize = 8;
-
-// Operations by number, those on routes more often than the others.
-const OPERATIONS: [u8; 16] = [0, 1, 1, 2, 3, 3, 4, 5, 5, 6, 7, 7, 7, 8, 8, 8];
 
 // The number of a row before row `at`: the last of them, or any.
 fn draw_earlier(random: &mut Random, at: usize) -> u8 {
@@ -16,7 +13,7 @@ fn draw_earlier(random: &mut Random, at: usize) -> u8 {
     } else {
         any
     };
-    (row & 0xFF) as u8
+    u8::try_from(row).unwrap_or(0)
 }
 
 // A mark: one of the first, or any.
@@ -25,91 +22,35 @@ pub fn draw_mark(random: &mut Random) -> u8 {
     (random.word() & mask) as u8
 }
 
-// A row with no row for an operand.
-fn draw_leaf(random: &mut Random, operation: u8, conditions: u32) -> Row {
-    if operation == 0 {
-        Row {
-            operation,
-            first: 0,
-            second: 0,
-        }
-    } else if operation == 2 && conditions > 0 {
-        let first = (random.below(conditions as usize) & 0xFF) as u8;
-        Row {
-            operation,
-            first,
-            second: 0,
-        }
-    } else {
-        Row {
-            operation: 1,
-            first: draw_mark(random),
-            second: 0,
-        }
+// One of so many conditions.
+pub fn draw_condition(random: &mut Random, conditions: u32) -> u8 {
+    u8::try_from(random.below(conditions as usize)).unwrap_or(0)
+}
+
+// Row `at` of a table over so many conditions: operations on routes more often than the others.
+fn draw_operation(random: &mut Random, at: usize, conditions: u32) -> Operation {
+    let earlier = at > 0;
+    match random.below(16) {
+        0 => Operation::Yes,
+        3 if conditions > 0 => Operation::Condition(draw_condition(random, conditions)),
+        4 | 5 if earlier => Operation::Not(draw_earlier(random, at)),
+        6 if earlier => Operation::And(draw_earlier(random, at), draw_earlier(random, at)),
+        7 | 8 if earlier => Operation::Or(draw_earlier(random, at), draw_earlier(random, at)),
+        9 if earlier => Operation::Next(draw_earlier(random, at)),
+        10..=12 if earlier => Operation::Until(draw_earlier(random, at), draw_earlier(random, at)),
+        13..=15 if earlier => Operation::Always(draw_earlier(random, at)),
+        _ => Operation::Mark(draw_mark(random)),
     }
 }
 
-// Row `at` of a table over so many conditions.
-fn draw_row(random: &mut Random, at: usize, conditions: u32) -> Row {
-    let operation = OPERATIONS[random.below(16) & 15];
-    if at == 0 {
-        return draw_leaf(random, operation, conditions);
-    }
-    match operation {
-        3 | 6 | 8 => Row {
-            operation,
-            first: draw_earlier(random, at),
-            second: 0,
-        },
-        4 | 5 | 7 => {
-            let first = draw_earlier(random, at);
-            let second = draw_earlier(random, at);
-            Row {
-                operation,
-                first,
-                second,
-            }
-        }
-        _ => draw_leaf(random, operation, conditions),
-    }
-}
-
-// Rows that a table begins with.
-#[derive(Clone, Copy)]
-enum Start {
-    // None: the first row is drawn as any other.
-    Drawn,
-    // A route to a mark: yes, the mark, until.
-    Until(u8),
-    // A route without a mark: the mark, not, always.
-    Always(u8),
-}
-
-fn draw_start(random: &mut Random) -> Start {
-    let mark = draw_mark(random);
+// The rows that a table begins with: a route to a mark, a route without a mark, or none.
+fn draw_start(heap: Global, random: &mut Random) -> Result<Vec<Operation>, AllocError> {
+    let mark = Operation::Mark(draw_mark(random));
     match random.below(3) {
-        0 => Start::Until(mark),
-        1 => Start::Always(mark),
-        _ => Start::Drawn,
+        0 => Ok(vec![in heap; Operation::Yes, mark, Operation::Until(0, 1)]?),
+        1 => Ok(vec![in heap; mark, Operation::Not(0), Operation::Always(1)]?),
+        _ => Ok(Vec::new(heap)),
     }
-}
-
-// Row `at` of a start; absent beyond its last row.
-fn start_row(start: Start, at: usize) -> Option<Row> {
-    let (operation, first, second) = match (start, at) {
-        (Start::Until(_), 0) => (0, 0, 0),
-        (Start::Until(mark), 1) => (1, mark, 0),
-        (Start::Until(_), 2) => (7, 0, 1),
-        (Start::Always(mark), 0) => (1, mark, 0),
-        (Start::Always(_), 1) => (3, 0, 0),
-        (Start::Always(_), 2) => (8, 1, 0),
-        _ => return None,
-    };
-    Some(Row {
-        operation,
-        first,
-        second,
-    })
 }
 
 // A table of one to eight rows.
@@ -117,16 +58,12 @@ pub fn draw_table(
     heap: Global,
     random: &mut Random,
     conditions: u32,
-) -> Result<Vec<Row>, AllocError> {
-    let mut table = Vec::new(heap);
-    let start = draw_start(random);
-    let rows = 1 + random.below(MOST_ROWS) % MOST_ROWS;
-    for at in 0..rows {
-        let row = match start_row(start, at) {
-            Some(row) => row,
-            None => draw_row(random, at, conditions),
-        };
-        table.push(row)?;
+) -> Result<Vec<Operation>, AllocError> {
+    let mut table = draw_start(heap, random)?;
+    let rows = random.below(MOST_ROWS).saturating_add(1);
+    table.truncate(rows);
+    for at in table.len()..rows {
+        table.push(draw_operation(random, at, conditions))?;
     }
     Ok(table)
 }

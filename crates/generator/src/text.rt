@@ -1,7 +1,8 @@
 // Drawn rules, each form with its text.
 use crate::random::Random;
-use crate::table::draw_mark;
+use crate::table::{draw_condition, draw_mark};
 use std::alloc::{AllocError, Global};
+use std::fmt::Write;
 
 // A form of a rule; its parts are numbers of earlier forms.
 #[derive(Clone, Copy)]
@@ -25,7 +26,7 @@ pub enum Form {
 }
 
 // How close a form binds: `|`, then `&`, then all others.
-#[derive(Clone, Copy)]
+#[derive(Clone, Copy, PartialEq, Eq, PartialOrd, Ord)]
 enum Strength {
     Choice,
     Both,
@@ -36,7 +37,7 @@ enum Strength {
 #[derive(Drop)]
 pub struct Spelled {
     pub form: Form,
-    pub text: Vec<u8>,
+    pub text: String,
     pub rows: usize,
 }
 
@@ -50,146 +51,123 @@ fn strength_of(form: Form) -> Strength {
     }
 }
 
-// Whether a form that binds as the first says stands without brackets where the second is wanted.
-fn stands(has: Strength, wanted: Strength) -> bool {
-    match (has, wanted) {
-        (_, Strength::Choice) => true,
-        (Strength::Choice, _) => false,
-        (Strength::Both, Strength::One) => false,
-        _ => true,
+// The text of a form as it is spelled, with the earlier forms, which its parts are among.
+#[derive(Drop)]
+struct Speller<'a> {
+    random: &'a mut Random,
+    forms: &'a [Spelled],
+    text: String,
+}
+
+impl<'a> Speller<'a> {
+    // A space or none.
+    fn push_space(&mut self) -> Result<(), AllocError> {
+        if self.random.one_in(2) {
+            self.text.push(' ')?;
+        }
+        Ok(())
     }
-}
 
-// A sign, with a space on either side or none.
-fn push_sign(random: &mut Random, text: &mut Vec<u8>, sign: &[u8]) -> Result<(), AllocError> {
-    if random.one_in(2) {
-        text.push(b' ')?;
+    // A sign, with a space on either side or none.
+    fn push_sign(&mut self, sign: &str) -> Result<(), AllocError> {
+        self.push_space()?;
+        self.text.push_str(sign)?;
+        self.push_space()
     }
-    text.extend_from_slice(sign)?;
-    if random.one_in(2) {
-        text.push(b' ')?;
+
+    // A part, in brackets where it binds less close than is wanted, and at times where it does not.
+    fn push_part(&mut self, number: usize, wanted: Strength) -> Result<(), AllocError> {
+        let Some(part) = self.forms.get(number) else {
+            return Ok(());
+        };
+        if strength_of(part.form) >= wanted && !self.random.one_in(4) {
+            return self.text.push_str(&part.text);
+        }
+        self.push_sign("(")?;
+        self.text.push_str(&part.text)?;
+        self.push_sign(")")
     }
-    Ok(())
-}
 
-// A part, in brackets where it needs them, and at times where it does not.
-fn push_part(
-    random: &mut Random,
-    text: &mut Vec<u8>,
-    forms: &Vec<Spelled>,
-    number: usize,
-    wanted: Strength,
-) -> Result<(), AllocError> {
-    let Some(part) = forms.get(number) else {
-        return Ok(());
-    };
-    if stands(strength_of(part.form), wanted) && !random.one_in(4) {
-        return text.extend_from_slice(&part.text);
+    // A word that takes one part.
+    fn push_prefix(&mut self, word: &str, p: usize) -> Result<(), AllocError> {
+        self.text.push_str(word)?;
+        self.push_part(p, Strength::One)
     }
-    push_sign(random, text, b"(")?;
-    text.extend_from_slice(&part.text)?;
-    push_sign(random, text, b")")
-}
 
-// A word that takes one part.
-fn spell_prefix(
-    random: &mut Random,
-    text: &mut Vec<u8>,
-    forms: &Vec<Spelled>,
-    word: &[u8],
-    p: usize,
-) -> Result<(), AllocError> {
-    text.extend_from_slice(word)?;
-    push_part(random, text, forms, p, Strength::One)
-}
+    // A sign between two parts; equal signs group from the left.
+    fn push_between(
+        &mut self,
+        p: usize,
+        left: Strength,
+        sign: &str,
+        q: usize,
+        right: Strength,
+    ) -> Result<(), AllocError> {
+        self.push_part(p, left)?;
+        self.push_sign(sign)?;
+        self.push_part(q, right)
+    }
 
-// A sign between two parts; equal signs group from the left.
-fn spell_between(
-    random: &mut Random,
-    text: &mut Vec<u8>,
-    forms: &Vec<Spelled>,
-    sign: &[u8],
-    (left, p): (Strength, usize),
-    (right, q): (Strength, usize),
-) -> Result<(), AllocError> {
-    push_part(random, text, forms, p, left)?;
-    push_sign(random, text, sign)?;
-    push_part(random, text, forms, q, right)
-}
+    fn push_until(&mut self, word: &str, p: usize, q: usize) -> Result<(), AllocError> {
+        self.text.push_str(word)?;
+        self.push_sign("[")?;
+        self.push_part(p, Strength::Choice)?;
+        self.text.push_str(" U ")?;
+        self.push_part(q, Strength::Choice)?;
+        self.push_sign("]")
+    }
 
-fn spell_until(
-    random: &mut Random,
-    text: &mut Vec<u8>,
-    forms: &Vec<Spelled>,
-    word: &[u8],
-    p: usize,
-    q: usize,
-) -> Result<(), AllocError> {
-    text.extend_from_slice(word)?;
-    push_sign(random, text, b"[")?;
-    push_part(random, text, forms, p, Strength::Choice)?;
-    text.extend_from_slice(b" U ")?;
-    push_part(random, text, forms, q, Strength::Choice)?;
-    push_sign(random, text, b"]")
+    fn push_form(&mut self, form: Form) -> Result<(), AllocError> {
+        match form {
+            Form::Yes => self.text.push_str("yes"),
+            Form::Mark(k) => write!(self.text, "m{k}"),
+            Form::Condition(k) => write!(self.text, "c{k}"),
+            Form::Not(p) => self.push_prefix("!", p),
+            Form::And(p, q) => self.push_between(p, Strength::Both, "&", q, Strength::One),
+            Form::Or(p, q) => self.push_between(p, Strength::Choice, "|", q, Strength::Both),
+            Form::SomeNext(p) => self.push_prefix("EX ", p),
+            Form::SomeFuture(p) => self.push_prefix("EF ", p),
+            Form::SomeAlways(p) => self.push_prefix("EG ", p),
+            Form::SomeUntil(p, q) => self.push_until("E", p, q),
+            Form::EveryNext(p) => self.push_prefix("AX ", p),
+            Form::EveryFuture(p) => self.push_prefix("AF ", p),
+            Form::EveryAlways(p) => self.push_prefix("AG ", p),
+            Form::EveryUntil(p, q) => self.push_until("A", p, q),
+        }
+    }
 }
 
 // The text of a form.
 fn spell(
     heap: Global,
     random: &mut Random,
-    forms: &Vec<Spelled>,
+    forms: &[Spelled],
     form: Form,
-) -> Result<Vec<u8>, AllocError> {
-    let mut text = Vec::new(heap);
-    let t = &mut text;
-    match form {
-        Form::Yes => t.extend_from_slice(b"yes")?,
-        Form::Mark(k) => t.extend_from_slice(format!(in heap; "m{k}")?.as_str().as_bytes())?,
-        Form::Condition(k) => t.extend_from_slice(format!(in heap; "c{k}")?.as_str().as_bytes())?,
-        Form::Not(p) => spell_prefix(random, t, forms, b"!", p)?,
-        Form::And(p, q) => {
-            let left = (Strength::Both, p);
-            spell_between(random, t, forms, b"&", left, (Strength::One, q))?
-        }
-        Form::Or(p, q) => {
-            let left = (Strength::Choice, p);
-            spell_between(random, t, forms, b"|", left, (Strength::Both, q))?
-        }
-        Form::SomeNext(p) => spell_prefix(random, t, forms, b"EX ", p)?,
-        Form::SomeFuture(p) => spell_prefix(random, t, forms, b"EF ", p)?,
-        Form::SomeAlways(p) => spell_prefix(random, t, forms, b"EG ", p)?,
-        Form::SomeUntil(p, q) => spell_until(random, t, forms, b"E", p, q)?,
-        Form::EveryNext(p) => spell_prefix(random, t, forms, b"AX ", p)?,
-        Form::EveryFuture(p) => spell_prefix(random, t, forms, b"AF ", p)?,
-        Form::EveryAlways(p) => spell_prefix(random, t, forms, b"AG ", p)?,
-        Form::EveryUntil(p, q) => spell_until(random, t, forms, b"A", p, q)?,
-    }
-    Ok(text)
-}
-
-// The rows of an earlier form.
-fn rows_of(forms: &Vec<Spelled>, number: usize) -> usize {
-    match forms.get(number) {
-        Some(part) => part.rows,
-        None => 0,
-    }
+) -> Result<String, AllocError> {
+    let mut speller = Speller {
+        random,
+        forms,
+        text: String::new(heap),
+    };
+    speller.push_form(form)?;
+    Ok(speller.text)
 }
 
 // How many rows the table of a form has: its own and those of its parts.
-fn count_rows(forms: &Vec<Spelled>, form: Form) -> usize {
-    let (own, p, q) = match form {
-        Form::Yes | Form::Mark(_) | Form::Condition(_) => return 1,
-        Form::Not(p) | Form::SomeNext(p) | Form::SomeAlways(p) => return 1usize.wrapping_add(
-            rows_of(forms, p),
-        ),
-        Form::SomeFuture(p) => return 2usize.wrapping_add(rows_of(forms, p)),
-        Form::EveryNext(p) | Form::EveryFuture(p) => return 3usize.wrapping_add(rows_of(forms, p)),
-        Form::EveryAlways(p) => return 4usize.wrapping_add(rows_of(forms, p)),
-        Form::And(p, q) | Form::Or(p, q) | Form::SomeUntil(p, q) => (1usize, p, q),
-        Form::EveryUntil(p, q) => (7usize, p, q),
+fn count_rows(forms: &[Spelled], form: Form) -> usize {
+    let rows = |number: usize| forms.get(number).map_or(0, |part| part.rows);
+    let (own, parts) = match form {
+        Form::Yes | Form::Mark(_) | Form::Condition(_) => (1, 0),
+        Form::Not(p) | Form::SomeNext(p) | Form::SomeAlways(p) => (1, rows(p)),
+        Form::SomeFuture(p) => (2, rows(p)),
+        Form::EveryNext(p) | Form::EveryFuture(p) => (3, rows(p)),
+        Form::EveryAlways(p) => (4, rows(p)),
+        Form::And(p, q) | Form::Or(p, q) | Form::SomeUntil(p, q) => {
+            (1, rows(p).saturating_add(rows(q)))
+        }
+        Form::EveryUntil(p, q) => (7, rows(p).saturating_add(rows(q))),
     };
-    own.wrapping_add(rows_of(forms, p))
-        .wrapping_add(rows_of(forms, q))
+    parts.saturating_add(own)
 }
 
 // The number of a form before form `at`: the last of them, or any.
@@ -205,7 +183,7 @@ fn draw_leaf(random: &mut Random, conditions: u32) -> Form {
     if random.one_in(8) {
         Form::Yes
     } else if conditions > 0 && random.one_in(3) {
-        Form::Condition((random.below(conditions as usize) & 0xFF) as u8)
+        Form::Condition(draw_condition(random, conditions))
     } else {
         Form::Mark(draw_mark(random))
     }
@@ -241,7 +219,7 @@ pub fn draw_rule(
     conditions: u32,
 ) -> Result<Vec<Spelled>, AllocError> {
     let mut forms = Vec::new(heap);
-    let count = 2usize.wrapping_add(random.below(MOST_FORMS));
+    let count = random.below(MOST_FORMS).saturating_add(2);
     for at in 0..count {
         let form = draw_form(random, at, conditions);
         let text = spell(heap, random, &forms, form)?;

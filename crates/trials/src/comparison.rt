@@ -1,91 +1,77 @@
 // What judging wrote and answered, compared with what the explorer found.
 use crate::tally::{Seen, Tally};
 use conditions::set::ConditionSet;
-use explorer::graph::{Graph, has};
+use explorer::graph::Graph;
+use explorer::positions::PositionSet;
 use explorer::rows::{Found, failing_entry};
 use verdicts::verdict::Verdict;
 
-// At how many positions the sets that judging wrote, one for each place, differ from a row.
+// At how many positions the sets that judging wrote for a row, one for each place, differ from those where the row holds.
 pub fn count_wrong<S: ConditionSet>(
     graph: &Graph,
-    held: &[bool],
+    held: &PositionSet,
     main: &[S],
-    start: usize,
+    row: usize,
 ) -> usize {
-    let mut wrong = 0usize;
-    for position in 0..graph.size() {
-        let expected = has(held, position);
-        let right = match main.get(start.wrapping_add(graph.place_of(position))) {
-            Some(written) => written.contains(graph.setting_of(position)) == expected,
-            None => false,
-        };
-        wrong = wrong.wrapping_add(usize::from(!right));
-    }
-    wrong
+    let start = row.saturating_mul(graph.places());
+    (0..graph.size())
+        .filter(|&at| {
+            let written = main.get(start.saturating_add(graph.place_of(at)));
+            written.is_none_or(|set| set.contains(graph.setting_of(at)) != held.contains(at))
+        })
+        .count()
 }
 
 // Counts the positions of a row, those where it is true, and those where it is false.
-fn count_positions(held: &[bool], tally: &mut Tally) {
-    let mut count = 0usize;
-    for holds in held {
-        count = count.wrapping_add(usize::from(*holds));
-    }
-    let failed = held.len().wrapping_sub(count);
-    tally.add(Seen::Positions, held.len());
+fn count_positions(graph: &Graph, held: &PositionSet, tally: &mut Tally) {
+    let count = held.count();
+    let failed = graph.size().saturating_sub(count);
+    tally.add(Seen::Positions, graph.size());
     tally.add(Seen::TruePositions, count);
     tally.add(Seen::FalsePositions, failed);
-    tally.add(Seen::MixedRows, usize::from(count > 0 && failed > 0));
+    tally.add_if(Seen::MixedRows, count > 0 && failed > 0);
 }
 
 // Compares every row at every position with the main list that judging wrote, and what lies behind the table's part of it,
 // which judging leaves as it was: all settings.
-pub fn compare_main<S: ConditionSet>(
-    graph: &Graph,
-    rows: &Vec<Found>,
-    main: &[S],
-    tally: &mut Tally,
-) {
-    let mut start = 0usize;
-    for found in rows.iter() {
-        let wrong = count_wrong(graph, &found.held, main, start);
-        tally.add(Seen::WrongPositions, wrong);
-        count_positions(&found.held, tally);
-        start = start.wrapping_add(graph.places());
+pub fn compare_main<S: ConditionSet>(graph: &Graph, rows: &[Found], main: &[S], tally: &mut Tally) {
+    for (row, found) in rows.iter().enumerate() {
+        tally.add(
+            Seen::WrongPositions,
+            count_wrong(graph, &found.held, main, row),
+        );
+        count_positions(graph, &found.held, tally);
     }
     let all = S::all();
-    for set in main.iter().skip(start) {
-        tally.add(Seen::WrongRest, usize::from(!set.same_members(&all)));
-    }
+    let rest = main.iter().skip(rows.len().saturating_mul(graph.places()));
+    tally.add(
+        Seen::WrongRest,
+        rest.filter(|set| !set.same_members(&all)).count(),
+    );
 }
 
 // Compares the rounds that judging answered with the sum over the rows.
-pub fn compare_rounds(rows: &Vec<Found>, rounds: usize, tally: &mut Tally) {
-    let mut sum = 0usize;
-    for row in rows.iter() {
-        sum = sum.wrapping_add(row.rounds);
-        tally.add(Seen::WrongRounds, usize::from(!row.agrees));
-    }
-    tally.add(Seen::WrongRounds, usize::from(sum != rounds));
+pub fn compare_rounds(rows: &[Found], rounds: usize, tally: &mut Tally) {
+    let sum = rows
+        .iter()
+        .fold(0usize, |sum, row| sum.saturating_add(row.rounds));
+    tally.add(
+        Seen::WrongRounds,
+        rows.iter().filter(|row| !row.agrees).count(),
+    );
+    tally.add_if(Seen::WrongRounds, sum != rounds);
 }
 
 // Compares the verdict with the one on the last row at the entries.
-pub fn compare_verdict(graph: &Graph, rows: &Vec<Found>, verdict: Verdict, tally: &mut Tally) {
-    let failing = match rows.last() {
-        Some(last) => failing_entry(graph, &last.held),
-        None => None,
-    };
-    let right = match verdict {
-        Verdict::Holds => {
-            tally.add(Seen::Holds, 1);
-            failing.is_none()
-        }
-        Verdict::Breaks(place, setting) => {
-            tally.add(Seen::Breaks, 1);
-            match failing {
-                Some(at) => graph.place_of(at) == place && graph.setting_of(at) == setting,
-                None => false,
-            }
-        }
-    };
-    tally.add(Seen::WrongVerdicts, usize::from(!right));
+pub fn compare_verdict(graph: &Graph, rows: &[Found], verdict: Verdict, tally: &mut Tally) {
+    let failing = rows
+        .last()
+        .and_then(|last| failing_entry(graph, &last.held));
+    let expected = failing.map_or(
+        Verdict::Holds,
+        |at| Verdict::Breaks(graph.place_of(at), graph.setting_of(at)),
+    );
+    tally.add_if(Seen::Holds, verdict == Verdict::Holds);
+    tally.add_if(Seen::Breaks, verdict != Verdict::Holds);
+    tally.add_if(Seen::WrongVerdicts, verdict != expected);
 }

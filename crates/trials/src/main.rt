@@ -7,38 +7,32 @@ mod comparison;
 mod forms;
 mod kinds;
 mod routes;
+mod space;
 mod tally;
 mod texts;
 mod trial;
 
-use anyhow::anyhow;
+use anyhow::ensure;
 use conditions::plain::Plain;
 use conditions::word::Word;
-use generator::random::Random;
-use tally::{Seen, Tally};
-use trial::try_network;
+use tally::Seen;
+use trial::Trial;
 
 const SEED: u64 = 2_718_281_828;
 
 const NETWORKS: usize = 400;
 
-fn run(rt: &HostRuntime) -> anyhow::Result<()> {
-    let heap = rt.alloc();
-    let mut random = Random::new(SEED);
-    let mut tally = Tally::new();
+fn run(rt: &(impl AllocGlobal + Print)) -> anyhow::Result<()> {
+    let mut trial = Trial::new(rt.alloc(), SEED)?;
     for _ in 0..NETWORKS {
-        try_network::<Plain>(heap, &mut random, &mut tally)?;
-        tally.add(Seen::PlainNetworks, 1);
-        try_network::<Word>(heap, &mut random, &mut tally)?;
-        tally.add(Seen::WordNetworks, 1);
+        trial.try_network::<Plain>()?;
+        trial.tally.add(Seen::PlainNetworks, 1);
+        trial.try_network::<Word>()?;
+        trial.tally.add(Seen::WordNetworks, 1);
     }
-    tally.print(rt)?;
-    if tally.untried() {
-        return Err(anyhow!("something was not tried"));
-    }
-    if tally.differs() {
-        return Err(anyhow!("judging and the explorer differ"));
-    }
+    trial.tally.print(rt)?;
+    ensure!(!trial.tally.untried(), "something was not tried");
+    ensure!(!trial.tally.differs(), "judging and the explorer differ");
     Ok(())
 }
 

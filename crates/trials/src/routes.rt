@@ -1,40 +1,26 @@
 // Routes that judging shows, compared with what the explorer found.
+use crate::space::Space;
 use crate::tally::{Seen, Tally};
 use conditions::set::ConditionSet;
-use explorer::graph::{Graph, has};
+use explorer::graph::Graph;
+use explorer::positions::PositionSet;
 use explorer::rows::{Found, operand};
 use explorer::until::hops_to;
 use judging::route::route;
 use judging::shown::{Ending, RouteStep, Shown};
 use routing::network::Network;
 use routing::refusal::Refusal;
-use std::alloc::{AllocError, Global};
-use tables::row::Row;
+use std::alloc::AllocError;
+use tables::row::{Operation, Row};
 
 // At how many settings of each place a route is asked for.
 const SETTINGS: u32 = 3;
-
-// The number of the refusal where the row does not hold at the position.
-const ROW_FAILS: u32 = 26;
 
 // What every record of the steps list is before a route is written to it.
 const BLANK: RouteStep = RouteStep {
     place: 0xFFFF,
     setting: 0xFFFF,
 };
-
-// A row of operation 6, 7 or 8 at a position, by the explorer.
-#[derive(Drop)]
-struct Query<'a> {
-    graph: &'a Graph,
-    operation: u8,
-    p: &'a [bool],
-    q: &'a [bool],
-    at: RouteStep,
-    holds: bool,
-    // The fewest hops to q, where the operation is 7 and there are some.
-    hops: Option<usize>,
-}
 
 // At how many settings of a place routes are asked for.
 fn samples(graph: &Graph) -> usize {
@@ -43,190 +29,225 @@ fn samples(graph: &Graph) -> usize {
 
 // Position k of those that routes are asked for at: some settings of each place, others for most places.
 fn sample(graph: &Graph, k: usize) -> RouteStep {
-    let place = k.checked_div(samples(graph)).unwrap_or(0);
-    let drawn = ((k & 0xFFF) as u32).wrapping_mul(37);
-    let setting = drawn.checked_rem(graph.settings()).unwrap_or(0);
-    RouteStep { place, setting }
-}
-
-// What the explorer says of a row at a position.
-fn query_at<'a>(
-    heap: Global,
-    graph: &'a Graph,
-    rows: &'a Vec<Found>,
-    found: &Found,
-    at: RouteStep,
-) -> Result<Query<'a>, AllocError> {
-    let operation = found.row.operation;
-    let p = operand(rows, found.row.first);
-    let q = operand(rows, found.row.second);
-    let from = graph.number(at.place, at.setting);
-    let hops = if operation == 7 {
-        hops_to(heap, graph, p, q, from)?
-    } else {
-        None
-    };
-    Ok(Query {
-        graph,
-        operation,
-        p,
-        q,
-        at,
-        holds: has(&found.held, from),
-        hops,
-    })
-}
-
-// Compares an until row with the hops of the walk forwards: there are some where the row holds, and no more
-// than its rounds.
-fn compare_hops(query: &Query, rounds: usize, tally: &mut Tally) {
-    match query.hops {
-        Some(hops) => {
-            tally.add(Seen::Hops, 1);
-            tally.add(Seen::WrongHops, usize::from(!query.holds || hops > rounds));
-        }
-        None => {
-            tally.add(Seen::Unreachable, 1);
-            tally.add(Seen::WrongHops, usize::from(query.holds));
-        }
+    RouteStep {
+        place: k.checked_div(samples(graph)).unwrap_or(0),
+        setting: graph.setting_of(k.saturating_mul(37)),
     }
+}
+
+fn number_of(graph: &Graph, at: &RouteStep) -> usize {
+    graph.number(at.place, at.setting)
 }
 
 // Whether a step leads from one position to another.
 fn joined(graph: &Graph, from: &RouteStep, to: &RouteStep) -> bool {
-    graph.leads(graph.number(from.place, from.setting), to.place)
+    graph.leads(number_of(graph, from), to.place)
 }
 
 // Whether the way starts at a position, comes to none twice, and has a step from each to the next.
 fn is_trail(graph: &Graph, start: RouteStep, way: &[RouteStep]) -> bool {
-    for at in 0..way.len() {
-        let (before, rest) = way.split_at(at);
-        let Some(next) = rest.first() else {
-            return false;
-        };
-        let follows = match before.last() {
-            Some(last) => joined(graph, last, next) && !before.contains(next),
-            None => *next == start,
-        };
-        if !follows || next.place >= graph.places() || next.setting >= graph.settings() {
-            return false;
-        }
-    }
-    true
+    let starts = way.first() == Some(&start);
+    let inside = way.iter().all(|at| at.place < graph.places() && at.setting < graph.settings());
+    let once = way.iter().enumerate().all(|(k, at)| {
+        way.iter().position(|other| other == at) == Some(k)
+    });
+    let joins = way
+        .iter()
+        .zip(way.iter().skip(1))
+        .all(|(from, to)| joined(graph, from, to));
+    starts && inside && once && joins
 }
 
 // Whether a set has each position of a way.
-fn has_each(graph: &Graph, set: &[bool], way: &[RouteStep]) -> bool {
-    for step in way {
-        if !has(set, graph.number(step.place, step.setting)) {
-            return false;
-        }
-    }
-    true
+fn has_each(graph: &Graph, set: &PositionSet, way: &[RouteStep]) -> bool {
+    way.iter().all(|at| set.contains(number_of(graph, at)))
 }
 
-// Whether the way and its ending are what the operation of the row wants, from its operands.
-fn shows(query: &Query, way: &[RouteStep], ending: Ending) -> bool {
-    let Some((last, before)) = way.split_last() else {
-        return false;
-    };
-    let graph = query.graph;
-    let at = graph.number(last.place, last.setting);
-    match (query.operation, ending) {
-        (6, Ending::Reaches) => before.len() == 1 && has(query.p, at),
-        (6, Ending::Returns(0)) => {
-            before.is_empty() && has(query.p, at) && joined(graph, last, last)
-        }
-        (7, Ending::Reaches) => {
-            has(query.q, at) && has_each(graph, query.p, before) && query.hops == Some(before.len())
-        }
-        (8, Ending::Rests) => has_each(graph, query.p, way) && graph.rests(at),
-        (8, Ending::Returns(i)) => match way.get(i) {
-            Some(to) => has_each(graph, query.p, way) && joined(graph, last, to),
-            None => false,
-        },
-        _ => false,
-    }
-}
-
-// Counts a shown route by its operation, its ending and its length.
-fn count_route(operation: u8, shown: Shown, tally: &mut Tally) {
-    let kind = match operation {
-        6 => Seen::NextRoutes,
-        7 => Seen::UntilRoutes,
-        _ => Seen::AlwaysRoutes,
-    };
-    let ending = match shown.ending {
-        Ending::Reaches => Seen::Reaching,
-        Ending::Rests => Seen::Resting,
-        Ending::Returns(_) => Seen::Returning,
-    };
-    tally.add(kind, 1);
-    tally.add(ending, 1);
-    tally.add(Seen::ShortRoutes, usize::from(shown.count == 1));
-    tally.add(Seen::LongRoutes, usize::from(shown.count >= 3));
-}
-
-// Compares a shown route. The steps list has no room for more than places + 1 positions.
-fn compare_shown(query: &Query, shown: Shown, steps: &[RouteStep], tally: &mut Tally) {
-    let right = match steps.get(..shown.count) {
-        Some(way) => { is_trail(query.graph, query.at, way) && shows(query, way, shown.ending) }
-        None => false,
-    };
-    tally.add(Seen::WrongRoutes, usize::from(!right));
-    count_route(query.operation, shown, tally);
-}
-
-// Compares an answer: a route exactly where the row holds, and else refusal 26; nothing is written behind the route.
-fn compare_answer(
-    query: &Query,
-    answer: Result<Shown, Refusal>,
-    steps: &[RouteStep],
-    tally: &mut Tally,
-) {
-    let mut written = 0;
-    let fits = match answer {
-        Ok(shown) => {
-            compare_shown(query, shown, steps, tally);
-            written = shown.count;
-            query.holds
-        }
-        Err(refusal) => {
-            let fails = refusal.number() == ROW_FAILS;
-            tally.add(Seen::RowFails, usize::from(fails));
-            fails && !query.holds
-        }
-    };
-    tally.add(Seen::WrongAnswers, usize::from(!fits));
-    for step in steps.iter().skip(written) {
-        tally.add(Seen::WrongSteps, usize::from(*step != BLANK));
-    }
-}
-
-// Asks for routes of each row of operation 6, 7 or 8 at some settings of each place, and compares the answers.
-pub fn compare_routes<'a, N: Network>(
-    heap: Global,
-    net: &N,
+// A row that a route is asked for, at a position, by the explorer.
+#[derive(Drop)]
+struct Query<'a> {
     graph: &'a Graph,
+    rows: &'a [Found],
+    found: &'a Found,
+    at: RouteStep,
+    holds: bool,
+    // The fewest hops to q, for p until q where there are some.
+    hops: Option<usize>,
+}
+
+impl<'a> Query<'a> {
+    // What the explorer says of a row at a position.
+    fn new(
+        graph: &'a Graph,
+        rows: &'a [Found],
+        found: &'a Found,
+        at: RouteStep,
+    ) -> Result<Query<'a>, AllocError> {
+        let from = number_of(graph, &at);
+        let hops = match found.operation {
+            Operation::Until(p, q) => {
+                hops_to(
+                    graph,
+                    operand(graph, rows, p),
+                    operand(graph, rows, q),
+                    from,
+                )?
+            }
+            _ => None,
+        };
+        Ok(Query {
+            graph,
+            rows,
+            found,
+            at,
+            holds: found.held.contains(from),
+            hops,
+        })
+    }
+
+    fn operand(&self, number: u8) -> &PositionSet {
+        operand(self.graph, self.rows, number)
+    }
+
+    // Compares an until row with the hops of the walk forwards: there are some where the row holds, and no more
+    // than its rounds.
+    fn compare_hops(&self, tally: &mut Tally) {
+        match self.hops {
+            Some(hops) => {
+                tally.add(Seen::Hops, 1);
+                tally.add_if(Seen::WrongHops, !self.holds || hops > self.found.rounds);
+            }
+            None => {
+                tally.add(Seen::Unreachable, 1);
+                tally.add_if(Seen::WrongHops, self.holds);
+            }
+        }
+    }
+
+    // Whether the way and its ending are what the operation of the row wants, from its operands.
+    fn is_shown_by(&self, way: &[RouteStep], ending: Ending) -> bool {
+        let Some((last, before)) = way.split_last() else {
+            return false;
+        };
+        let graph = self.graph;
+        let at = number_of(graph, last);
+        match (self.found.operation, ending) {
+            (Operation::Next(p), Ending::Reaches) => {
+                before.len() == 1 && self.operand(p).contains(at)
+            }
+            (Operation::Next(p), Ending::Returns(0)) => {
+                before.is_empty() && self.operand(p).contains(at) && joined(graph, last, last)
+            }
+            (Operation::Until(p, q), Ending::Reaches) => {
+                self.operand(q).contains(at)
+                    && has_each(graph, self.operand(p), before)
+                    && self.hops == Some(before.len())
+            }
+            (Operation::Always(p), Ending::Rests) => {
+                has_each(graph, self.operand(p), way) && graph.rests(at)
+            }
+            (Operation::Always(p), Ending::Returns(i)) => {
+                has_each(graph, self.operand(p), way)
+                    && way.get(i).is_some_and(|to| joined(graph, last, to))
+            }
+            _ => false,
+        }
+    }
+
+    // Counts a shown route by its operation, its ending and its length.
+    fn count_route(&self, shown: Shown, tally: &mut Tally) {
+        let kind = match self.found.operation {
+            Operation::Next(_) => Seen::NextRoutes,
+            Operation::Until(_, _) => Seen::UntilRoutes,
+            _ => Seen::AlwaysRoutes,
+        };
+        let ending = match shown.ending {
+            Ending::Reaches => Seen::Reaching,
+            Ending::Rests => Seen::Resting,
+            Ending::Returns(_) => Seen::Returning,
+        };
+        tally.add(kind, 1);
+        tally.add(ending, 1);
+        tally.add_if(Seen::ShortRoutes, shown.count == 1);
+        tally.add_if(Seen::LongRoutes, shown.count >= 3);
+    }
+
+    // Compares a shown route. The steps list has no room for more than places + 1 positions.
+    fn compare_shown(&self, shown: Shown, steps: &[RouteStep], tally: &mut Tally) {
+        let right = steps.get(..shown.count).is_some_and(|way| {
+            is_trail(self.graph, self.at, way) && self.is_shown_by(way, shown.ending)
+        });
+        tally.add_if(Seen::WrongRoutes, !right);
+        self.count_route(shown, tally);
+    }
+
+    // Compares an answer: a route exactly where the row holds, and else the refusal that it fails there; nothing is
+    // written behind the route.
+    fn compare_answer(
+        &self,
+        answer: Result<Shown, Refusal>,
+        steps: &[RouteStep],
+        tally: &mut Tally,
+    ) {
+        let written = match answer {
+            Ok(shown) => {
+                self.compare_shown(shown, steps, tally);
+                tally.add_if(Seen::WrongAnswers, !self.holds);
+                shown.count
+            }
+            Err(refusal) => {
+                let fails = refusal == Refusal::RowFails;
+                tally.add_if(Seen::RowFails, fails);
+                tally.add_if(Seen::WrongAnswers, !fails || self.holds);
+                0
+            }
+        };
+        let rest = steps.iter().skip(written);
+        tally.add(
+            Seen::WrongSteps,
+            rest.filter(|step| **step != BLANK).count(),
+        );
+    }
+}
+
+// Whether a route can be asked for of a row.
+fn shows_routes(operation: Operation) -> bool {
+    matches!(
+        operation,
+        Operation::Next(_) | Operation::Until(_, _) | Operation::Always(_)
+    )
+}
+
+// Asks for routes of each row that says next, until or always, at some settings of each place, and compares the answers.
+pub fn compare_routes<N: Network>(
+    net: &N,
+    graph: &Graph,
     table: &[Row],
-    rows: &'a Vec<Found>,
-    main: &mut [N::Set],
-    spare: &mut [N::Set],
+    rows: &[Found],
+    space: &mut Space<N::Set>,
     tally: &mut Tally,
 ) -> Result<(), AllocError> {
     for (number, found) in rows.iter().enumerate() {
-        if found.row.operation < 6 {
+        if !shows_routes(found.operation) {
             continue;
         }
-        for k in 0..graph.places().wrapping_mul(samples(graph)) {
+        for k in 0..graph.places().saturating_mul(samples(graph)) {
             let at = sample(graph, k);
-            let mut steps = vec![in heap; BLANK; graph.places().saturating_add(1)]?;
-            let answer = route(net, table, number, at, main, spare, &mut steps);
-            let query = query_at(heap, graph, rows, found, at)?;
-            if found.row.operation == 7 {
-                compare_hops(&query, found.rounds, tally);
+            let mut steps = vec![in graph.heap(); BLANK; graph.places().saturating_add(1)]?;
+            let answer = route(
+                net,
+                table,
+                number,
+                at,
+                &mut space.main,
+                &mut space.spare,
+                &mut steps,
+            );
+            let query = Query::new(graph, rows, found, at)?;
+            if matches!(found.operation, Operation::Until(_, _)) {
+                query.compare_hops(tally);
             }
-            compare_answer(&query, answer, &steps, tally);
+            query.compare_answer(answer, &steps, tally);
         }
     }
     Ok(())

@@ -1,8 +1,10 @@
 // Counts of what was tried and of what differed.
+use std::alloc::{AllocError, Global};
+use std::collections::BTreeMap;
 use std::io;
 
 // What is counted.
-#[derive(Clone, Copy)]
+#[derive(Clone, Copy, PartialEq, Eq, PartialOrd, Ord)]
 pub enum Seen {
     PlainNetworks,
     WordNetworks,
@@ -65,10 +67,8 @@ pub enum Seen {
     Refusals,
 }
 
-const KINDS: usize = 59;
-
 // What has to be tried, in the order of the summary.
-const TRIED: [(Seen, &str); 48] = [
+const TRIED: &[(Seen, &str)] = &[
     (Seen::PlainNetworks, "networks of plain sets"),
     (Seen::WordNetworks, "networks of word sets"),
     (Seen::NoPlaces, "networks with no places"),
@@ -126,7 +126,7 @@ const TRIED: [(Seen, &str); 48] = [
 ];
 
 // What may not come, in the order of the summary.
-const WRONG: [(Seen, &str); 11] = [
+const WRONG: &[(Seen, &str)] = &[
     (Seen::WrongPositions, "positions that differ"),
     (Seen::WrongRounds, "rounds that differ"),
     (Seen::WrongVerdicts, "verdicts that differ"),
@@ -142,30 +142,37 @@ const WRONG: [(Seen, &str); 11] = [
 
 #[derive(Drop)]
 pub struct Tally {
-    counts: [usize; KINDS],
+    counts: BTreeMap<Seen, usize>,
 }
 
 impl Tally {
-    pub fn new() -> Tally {
-        Tally { counts: [0; KINDS] }
+    // Nothing is counted yet.
+    pub fn new(heap: Global) -> Result<Tally, AllocError> {
+        let mut counts = BTreeMap::new(heap);
+        for (what, _) in TRIED.iter().chain(WRONG) {
+            counts.insert(*what, 0)?;
+        }
+        Ok(Tally { counts })
     }
 
     pub fn add(&mut self, what: Seen, more: usize) {
-        let i = what as usize;
-        if i < KINDS {
-            let before = self.counts[i];
-            self.counts[i] = before.wrapping_add(more);
+        if let Some(count) = self.counts.get_mut(&what) {
+            *count = count.saturating_add(more);
         }
     }
 
+    // Adds one where it is so.
+    pub fn add_if(&mut self, what: Seen, is_so: bool) {
+        self.add(what, usize::from(is_so));
+    }
+
     fn count(&self, what: Seen) -> usize {
-        let i = what as usize;
-        if i < KINDS { self.counts[i] } else { 0 }
+        self.counts.get(&what).copied().unwrap_or(0)
     }
 
     // Prints a line for each count.
     pub fn print(&self, rt: &impl Print) -> io::Result<()> {
-        for (what, name) in TRIED.iter().chain(WRONG.iter()) {
+        for (what, name) in TRIED.iter().chain(WRONG) {
             let count = self.count(*what);
             println!(rt; "{name}: {count}")?;
         }
@@ -174,21 +181,11 @@ impl Tally {
 
     // Whether something that was to be tried was not.
     pub fn untried(&self) -> bool {
-        for (what, _) in TRIED.iter() {
-            if self.count(*what) == 0 {
-                return true;
-            }
-        }
-        false
+        TRIED.iter().any(|(what, _)| self.count(*what) == 0)
     }
 
     // Whether anything differed.
     pub fn differs(&self) -> bool {
-        for (what, _) in WRONG.iter() {
-            if self.count(*what) != 0 {
-                return true;
-            }
-        }
-        false
+        WRONG.iter().any(|(what, _)| self.count(*what) != 0)
     }
 }

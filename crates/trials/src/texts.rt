@@ -1,28 +1,30 @@
 // Rules as text, read and judged, compared with what the explorer found of their forms.
 use crate::comparison::count_wrong;
 use crate::forms::work_forms;
+use crate::space::Space;
 use crate::tally::{Seen, Tally};
-use crate::trial::full_sets;
 use explorer::graph::Graph;
+use explorer::positions::PositionSet;
 use generator::text::{Form, Spelled};
 use judging::judge::judge;
 use routing::network::Network;
+use rule_text::fault::FaultKind;
 use rule_text::read::read_rule;
-use std::alloc::{AllocError, Global};
+use std::alloc::AllocError;
 use tables::row::Row;
+use tables::table::MOST_ROWS;
+
+const MOST_BYTES: usize = 200;
 
 // The sets of 32 rows at ten places.
 const MAIN: usize = 320;
 
-// Two sets for each of ten places.
-const SPARE: usize = 20;
-
-// The number of the refusal that a text has for its size: 9 for its bytes, else 5 for its rows, else none.
-fn size_refusal(rule: &Spelled) -> Option<u8> {
-    if rule.text.len() > 200 {
-        Some(9)
-    } else if rule.rows > 32 {
-        Some(5)
+// The fault that a text has for its size: its bytes are counted before its rows.
+fn size_fault(rule: &Spelled) -> Option<FaultKind> {
+    if rule.text.len() > MOST_BYTES {
+        Some(FaultKind::TooLong)
+    } else if rule.rows > MOST_ROWS {
+        Some(FaultKind::TooManyRows)
     } else {
         None
     }
@@ -42,55 +44,49 @@ fn count_form(form: Form, tally: &mut Tally) {
 
 // Judges the table of a text, and compares its last row at every position.
 fn compare_rows<N: Network>(
-    heap: Global,
     net: &N,
     graph: &Graph,
     rows: &[Row],
-    held: &[bool],
+    held: &PositionSet,
     tally: &mut Tally,
 ) -> Result<(), AllocError> {
-    let mut main = full_sets::<N::Set>(heap, MAIN)?;
-    let mut spare = full_sets::<N::Set>(heap, SPARE)?;
-    match judge(net, rows, &mut main, &mut spare) {
+    let mut space = Space::new(graph.heap(), MAIN)?;
+    match judge(net, rows, &mut space.main, &mut space.spare) {
         Ok(_) => {
-            let start = rows.len().saturating_sub(1).wrapping_mul(graph.places());
-            let wrong = count_wrong(graph, held, &main, start);
+            let wrong = count_wrong(graph, held, &space.main, rows.len().saturating_sub(1));
             tally.add(Seen::WrongTexts, wrong);
         }
         Err(_) => tally.add(Seen::Refusals, 1),
     }
-    for holds in held {
-        tally.add(Seen::TextTrue, usize::from(*holds));
-        tally.add(Seen::TextFalse, usize::from(!*holds));
-    }
+    let count = held.count();
+    tally.add(Seen::TextTrue, count);
+    tally.add(Seen::TextFalse, graph.size().saturating_sub(count));
     Ok(())
 }
 
 // Reads the text of a rule and judges the network by it.
 pub fn try_text<N: Network>(
-    heap: Global,
     net: &N,
     graph: &Graph,
-    forms: &Vec<Spelled>,
+    forms: &[Spelled],
     tally: &mut Tally,
 ) -> Result<(), AllocError> {
-    let done = work_forms(heap, graph, forms)?;
-    let (Some(rule), Some(last)) = (forms.last(), done.last()) else {
+    let done = work_forms(graph, forms)?;
+    let (Some(rule), Some(held)) = (forms.last(), done.last()) else {
         return Ok(());
     };
     count_form(rule.form, tally);
-    let expected = size_refusal(rule);
-    match read_rule::<N::Set>(&rule.text) {
+    let expected = size_fault(rule);
+    match read_rule::<N::Set>(rule.text.as_bytes()) {
         Ok(table) => {
             let rows = table.rows();
             let fits = expected.is_none() && rows.len() == rule.rows;
-            tally.add(Seen::WrongReadings, usize::from(!fits));
-            compare_rows(heap, net, graph, rows, &last.positions, tally)
+            tally.add_if(Seen::WrongReadings, !fits);
+            compare_rows(net, graph, rows, held, tally)
         }
         Err(fault) => {
-            let fits = expected == Some(fault.number());
             tally.add(Seen::LargeTexts, 1);
-            tally.add(Seen::WrongReadings, usize::from(!fits));
+            tally.add_if(Seen::WrongReadings, expected != Some(fault.kind));
             Ok(())
         }
     }

@@ -1,10 +1,10 @@
-// One drawn network, tried with drawn tables.
+// Drawn networks, each tried with drawn tables and texts.
 use crate::comparison::{compare_main, compare_rounds, compare_verdict};
 use crate::kinds::count_kinds;
 use crate::routes::compare_routes;
+use crate::space::Space;
 use crate::tally::{Seen, Tally};
 use crate::texts::try_text;
-use conditions::set::ConditionSet;
 use explorer::graph::Graph;
 use explorer::rows::{Found, work_rows};
 use generator::network::draw_network;
@@ -13,11 +13,10 @@ use generator::sets::Draw;
 use generator::table::draw_table;
 use generator::text::draw_rule;
 use judging::judge::judge;
-use routing::binding::Binding;
 use routing::network::Network;
 use routing::site::SiteTable;
 use std::alloc::{AllocError, Global};
-use tables::row::Row;
+use tables::row::{Operation, Row};
 use verdicts::entries::judge_entries;
 
 const TABLES: usize = 5;
@@ -27,116 +26,105 @@ const TEXTS: usize = 5;
 // More than the sets of eight rows at ten places.
 const MAIN: usize = 96;
 
-// Two sets for each of ten places.
-const SPARE: usize = 20;
-
 // Counts the rows by operation, and those of two and more, and of five and more rounds.
-fn count_rows(rows: &Vec<Found>, tally: &mut Tally) {
-    for found in rows.iter() {
-        let long = usize::from(found.rounds >= 2);
-        let kind = match found.row.operation {
-            0 => Seen::YesRows,
-            1 => Seen::MarkRows,
-            2 => Seen::ConditionRows,
-            3 => Seen::NotRows,
-            4 => Seen::AndRows,
-            5 => Seen::OrRows,
-            6 => Seen::NextRows,
-            7 => {
-                tally.add(Seen::LongUntilRows, long);
+fn count_rows(rows: &[Found], tally: &mut Tally) {
+    for found in rows {
+        let kind = match found.operation {
+            Operation::Yes => Seen::YesRows,
+            Operation::Mark(_) => Seen::MarkRows,
+            Operation::Condition(_) => Seen::ConditionRows,
+            Operation::Not(_) => Seen::NotRows,
+            Operation::And(_, _) => Seen::AndRows,
+            Operation::Or(_, _) => Seen::OrRows,
+            Operation::Next(_) => Seen::NextRows,
+            Operation::Until(_, _) => {
+                tally.add_if(Seen::LongUntilRows, found.rounds >= 2);
                 Seen::UntilRows
             }
-            _ => {
-                tally.add(Seen::LongAlwaysRows, long);
+            Operation::Always(_) => {
+                tally.add_if(Seen::LongAlwaysRows, found.rounds >= 2);
                 Seen::AlwaysRows
             }
         };
         tally.add(kind, 1);
-        tally.add(Seen::LongestRows, usize::from(found.rounds >= 5));
+        tally.add_if(Seen::LongestRows, found.rounds >= 5);
         tally.add(Seen::Rows, 1);
     }
 }
 
-// So many sets, each of all settings.
-pub fn full_sets<S: ConditionSet>(heap: Global, count: usize) -> Result<Vec<S>, AllocError> {
-    let mut sets = Vec::new(heap);
-    sets.resize(count, S::all())?;
-    Ok(sets)
-}
-
 // Judges a network against a table in both ways that judging has, asks for routes, and compares.
 fn try_table<N: Network>(
-    heap: Global,
     net: &N,
     graph: &Graph,
-    table: &[Row],
+    operations: &[Operation],
     tally: &mut Tally,
 ) -> Result<(), AllocError> {
-    let rows = work_rows(heap, graph, table)?;
-    let mut main = full_sets(heap, MAIN)?;
-    let mut spare = full_sets(heap, SPARE)?;
-    match judge(net, table, &mut main, &mut spare) {
+    let found = work_rows(graph, operations)?;
+    let table: Vec<Row> = operations
+        .iter()
+        .map(|op| Row::from(*op))
+        .collect(graph.heap())?;
+    let mut space = Space::new(graph.heap(), MAIN)?;
+    match judge(net, &table, &mut space.main, &mut space.spare) {
         Ok(rounds) => {
-            compare_main(graph, &rows, &main, tally);
-            compare_rounds(&rows, rounds, tally);
+            compare_main(graph, &found, &space.main, tally);
+            compare_rounds(&found, rounds, tally);
         }
         Err(_) => tally.add(Seen::Refusals, 1),
     }
-    match judge_entries(net, table, &mut main, &mut spare) {
+    match judge_entries(net, &table, &mut space.main, &mut space.spare) {
         Ok(judgement) => {
-            compare_rounds(&rows, judgement.rounds, tally);
-            compare_verdict(graph, &rows, judgement.verdict, tally);
+            compare_rounds(&found, judgement.rounds, tally);
+            compare_verdict(graph, &found, judgement.verdict, tally);
         }
         Err(_) => tally.add(Seen::Refusals, 1),
     }
-    count_rows(&rows, tally);
-    compare_routes(heap, net, graph, table, &rows, &mut main, &mut spare, tally)
+    count_rows(&found, tally);
+    compare_routes(net, graph, &table, &found, &mut space, tally)
 }
 
-// Tries a network with drawn tables and texts.
-fn try_tables<N: Network>(
+// What is drawn, and the counts of what was tried and of what differed.
+#[derive(Drop)]
+pub struct Trial {
     heap: Global,
-    net: &N,
-    random: &mut Random,
-    tally: &mut Tally,
-) -> Result<(), AllocError> {
-    let graph = Graph::of(heap, net)?;
-    count_kinds(net, &graph, tally);
-    for _ in 0..TABLES {
-        let table = draw_table(heap, random, net.conditions())?;
-        try_table(heap, net, &graph, &table, tally)?;
-        tally.add(Seen::Tables, 1);
-    }
-    for _ in 0..TEXTS {
-        let forms = draw_rule(heap, random, net.conditions())?;
-        try_text(heap, net, &graph, &forms, tally)?;
-    }
-    Ok(())
+    random: Random,
+    pub tally: Tally,
 }
 
-// Opens a site table and tries it.
-fn try_site<'a, S: ConditionSet>(
-    heap: Global,
-    marks: &'a [u32],
-    bindings: &'a [Binding<S>],
-    random: &mut Random,
-    tally: &mut Tally,
-) -> Result<(), AllocError> {
-    match SiteTable::open(marks, bindings) {
-        Ok(site) => try_tables(heap, &site, random, tally),
-        Err(_) => {
-            tally.add(Seen::Refusals, 1);
-            Ok(())
+impl Trial {
+    pub fn new(heap: Global, seed: u64) -> Result<Trial, AllocError> {
+        Ok(Trial {
+            heap,
+            random: Random::new(seed),
+            tally: Tally::new(heap)?,
+        })
+    }
+
+    // Tries a network with drawn tables and texts.
+    fn try_tables<N: Network>(&mut self, net: &N) -> Result<(), AllocError> {
+        let graph = Graph::of(self.heap, net)?;
+        count_kinds(net, &graph, &mut self.tally);
+        for _ in 0..TABLES {
+            let table = draw_table(self.heap, &mut self.random, net.conditions())?;
+            try_table(net, &graph, &table, &mut self.tally)?;
+            self.tally.add(Seen::Tables, 1);
+        }
+        for _ in 0..TEXTS {
+            let forms = draw_rule(self.heap, &mut self.random, net.conditions())?;
+            try_text(net, &graph, &forms, &mut self.tally)?;
+        }
+        Ok(())
+    }
+
+    // Draws a network and tries it.
+    pub fn try_network<S: Draw>(&mut self) -> Result<(), AllocError> {
+        let drawn = draw_network::<S>(self.heap, &mut self.random)?;
+        match SiteTable::open(&drawn.marks, &drawn.bindings) {
+            Ok(site) => self.try_tables(&site),
+            Err(_) => {
+                self.tally.add(Seen::Refusals, 1);
+                Ok(())
+            }
         }
     }
-}
-
-// Draws a network and tries it.
-pub fn try_network<S: Draw>(
-    heap: Global,
-    random: &mut Random,
-    tally: &mut Tally,
-) -> Result<(), AllocError> {
-    let drawn = draw_network::<S>(heap, random)?;
-    try_site(heap, &drawn.marks, &drawn.bindings, random, tally)
 }

@@ -1,0 +1,45 @@
+// Sets of positions.
+use std::alloc::{AllocError, Global};
+
+// A set of positions by their numbers: a truth value for each.
+#[derive(PartialEq, Eq, Drop)]
+pub struct PositionSet {
+    members: Vec<bool>,
+}
+
+impl PositionSet {
+    // The set of no positions, which has room for none.
+    pub fn new(heap: Global) -> PositionSet {
+        PositionSet {
+            members: Vec::new(heap),
+        }
+    }
+
+    // The positions below `size` that pass a test.
+    pub fn of<F: Fn(usize) -> bool>(
+        heap: Global,
+        size: usize,
+        test: F,
+    ) -> Result<PositionSet, AllocError>
+        requires { F.IsAlwaysCallable test }
+    {
+        let members = (0..size).map(|position| test(position)).collect(heap)?;
+        Ok(PositionSet { members })
+    }
+
+    pub fn contains(&self, position: usize) -> bool {
+        self.members.get(position).copied().unwrap_or(false)
+    }
+
+    // Puts a position into the set, where there is room for it.
+    pub fn insert(&mut self, position: usize) {
+        if let Some(member) = self.members.get_mut(position) {
+            *member = true;
+        }
+    }
+
+    // How many positions are in the set.
+    pub fn count(&self) -> usize {
+        self.members.iter().filter(|member| **member).count()
+    }
+}
