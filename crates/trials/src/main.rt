@@ -12,7 +12,7 @@ mod tally;
 mod texts;
 mod trial;
 
-use anyhow::anyhow;
+use anyhow::ensure;
 use conditions::plain::Plain;
 use conditions::word::Word;
 use tally::Seen;
@@ -23,7 +23,7 @@ const SEED: u64 = 2_718_281_828;
 const NETWORKS: usize = 400;
 
 fn run(rt: &(impl AllocGlobal + Print)) -> anyhow::Result<()> {
-    let mut trial = Trial::new(rt.alloc(), SEED);
+    let mut trial = Trial::new(rt.alloc(), SEED)?;
     for _ in 0..NETWORKS {
         trial.try_network::<Plain>()?;
         trial.tally.add(Seen::PlainNetworks, 1);
@@ -31,12 +31,8 @@ fn run(rt: &(impl AllocGlobal + Print)) -> anyhow::Result<()> {
         trial.tally.add(Seen::WordNetworks, 1);
     }
     trial.tally.print(rt)?;
-    if trial.tally.untried() {
-        return Err(anyhow!("something was not tried"));
-    }
-    if trial.tally.differs() {
-        return Err(anyhow!("judging and the explorer differ"));
-    }
+    ensure!(!trial.tally.untried(), "something was not tried");
+    ensure!(!trial.tally.differs(), "judging and the explorer differ");
     Ok(())
 }
 

@@ -1,8 +1,10 @@
 // Counts of what was tried and of what differed.
+use std::alloc::{AllocError, Global};
+use std::collections::BTreeMap;
 use std::io;
 
 // What is counted.
-#[derive(Clone, Copy)]
+#[derive(Clone, Copy, PartialEq, Eq, PartialOrd, Ord)]
 pub enum Seen {
     PlainNetworks,
     WordNetworks,
@@ -64,8 +66,6 @@ pub enum Seen {
     WrongReadings,
     Refusals,
 }
-
-const KINDS: usize = Seen::Refusals as usize + 1;
 
 // What has to be tried, in the order of the summary.
 const TRIED: &[(Seen, &str)] = &[
@@ -142,16 +142,21 @@ const WRONG: &[(Seen, &str)] = &[
 
 #[derive(Drop)]
 pub struct Tally {
-    counts: [usize; KINDS],
+    counts: BTreeMap<Seen, usize>,
 }
 
 impl Tally {
-    pub fn new() -> Tally {
-        Tally { counts: [0; KINDS] }
+    // Nothing is counted yet.
+    pub fn new(heap: Global) -> Result<Tally, AllocError> {
+        let mut counts = BTreeMap::new(heap);
+        for (what, _) in TRIED.iter().chain(WRONG) {
+            counts.insert(*what, 0)?;
+        }
+        Ok(Tally { counts })
     }
 
     pub fn add(&mut self, what: Seen, more: usize) {
-        if let Some(count) = self.counts.get_mut(what as usize) {
+        if let Some(count) = self.counts.get_mut(&what) {
             *count = count.saturating_add(more);
         }
     }
@@ -162,12 +167,12 @@ impl Tally {
     }
 
     fn count(&self, what: Seen) -> usize {
-        self.counts.get(what as usize).copied().unwrap_or(0)
+        self.counts.get(&what).copied().unwrap_or(0)
     }
 
     // Prints a line for each count.
     pub fn print(&self, rt: &impl Print) -> io::Result<()> {
-        for (what, name) in TRIED.iter().chain(WRONG.iter()) {
+        for (what, name) in TRIED.iter().chain(WRONG) {
             let count = self.count(*what);
             println!(rt; "{name}: {count}")?;
         }

@@ -19,13 +19,14 @@ const MOST_BYTES: usize = 200;
 // The sets of 32 rows at ten places.
 const MAIN: usize = 320;
 
-// Whether a text is refused, by its size, for this reason; its bytes are counted before its rows.
-fn is_refused(rule: &Spelled, kind: FaultKind) -> bool {
-    let long = rule.text.len() > MOST_BYTES;
-    match kind {
-        FaultKind::TooLong => long,
-        FaultKind::TooManyRows => !long && rule.rows > MOST_ROWS,
-        _ => false,
+// The fault that a text has for its size: its bytes are counted before its rows.
+fn size_fault(rule: &Spelled) -> Option<FaultKind> {
+    if rule.text.len() > MOST_BYTES {
+        Some(FaultKind::TooLong)
+    } else if rule.rows > MOST_ROWS {
+        Some(FaultKind::TooManyRows)
+    } else {
+        None
     }
 }
 
@@ -75,17 +76,17 @@ pub fn try_text<N: Network>(
         return Ok(());
     };
     count_form(rule.form, tally);
+    let expected = size_fault(rule);
     match read_rule::<N::Set>(rule.text.as_bytes()) {
         Ok(table) => {
             let rows = table.rows();
-            let refused = is_refused(rule, FaultKind::TooLong)
-                || is_refused(rule, FaultKind::TooManyRows);
-            tally.add_if(Seen::WrongReadings, refused || rows.len() != rule.rows);
+            let fits = expected.is_none() && rows.len() == rule.rows;
+            tally.add_if(Seen::WrongReadings, !fits);
             compare_rows(net, graph, rows, held, tally)
         }
         Err(fault) => {
             tally.add(Seen::LargeTexts, 1);
-            tally.add_if(Seen::WrongReadings, !is_refused(rule, fault.kind));
+            tally.add_if(Seen::WrongReadings, expected != Some(fault.kind));
             Ok(())
         }
     }
