@@ -1,6 +1,7 @@
 -- Words that are a rule lead the reader to that rule.
 use Rattle.std.proofs.Common.{◌≡◌, List, [], ◌∷◌, ◌++◌, Some, None, Option, sym, refl, ap, ◌∙◌}
 use Rattle.std.proofs.lemmas.List.{append_assoc, append-nil}
+use Rattle.std.specs.Option.{option_and_then}
 use Rattle.routing.specs.Rules.{Rule, both, either}
 use Rattle.rule_text.specs.declared.word.Prefix.{Prefix}
 use Rattle.rule_text.specs.declared.word.Quantifier.{Quantifier}
@@ -9,14 +10,10 @@ use Rattle.rule_text.specs.declared.word.Word.TheVariants.{Routes, Until, And, O
 use Rattle.rule_text.specs.Grammar.{until_rule, Strength, one, ands, ors, Forms, yes_word, mark_word, condition_word, prefixed, bracketed, until, single, and_words, alone, or_words, IsRule}
 use Rattle.rule_text.specs.Descent.{bracket, until_first, until_second, Around, nothing, inside, State, before_part, behind_part, or_with, part_done, next_state, rule_read}
 
-abbrev pub onto : Option State → (State → Option Rule) → Option Rule
-onto None from = None
-onto (Some s) from = from s
-
 -- The rule that words come to, from a state on.
 abbrev pub accepts : List Word → State → Option Rule
 accepts [] s = rule_read s
-accepts (w ∷ ws) s = onto (next_state s w) (accepts ws)
+accepts (w ∷ ws) s = option_and_then (accepts ws) (next_state s w)
 
 abbrev pub begin : State
 begin = before_part [] None None nothing

@@ -1,5 +1,5 @@
 -- What the public contracts claim.
-use Rattle.std.proofs.Common.{◌≡◌, ℕ, ◌<◌, ◌≤◌, Bool, true, false, cond, ◌⊎◌, ◌↔◌, List, [], ◌∷◌, ◌++◌, length, IfOk, Some, None, Ok, Err, Option, Result, sym, refl, ap, ◌∙◌, subst, inl, inr}
+use Rattle.std.proofs.Common.{◌≡◌, ℕ, ◌<◌, ◌≤◌, true, ◌⊎◌, ◌↔◌, List, [], ◌∷◌, ◌++◌, length, IfOk, Some, Ok, Err, Result, sym, refl, ap, ◌∙◌, subst, inl, inr}
 use Rattle.std.proofs.lemmas.List.{append_assoc, append-nil}
 use Rattle.std.proofs.lemmas.Bool.{and_from, and_parts, cases_lt, cond-true}
 use Rattle.routing.specs.Rules.{Rule, Means}
@@ -7,7 +7,6 @@ use Rattle.tables.specs.Tables.{accepted}
 use Rattle.rule_text.specs.declared.word.Word.{Word}
 use Rattle.rule_text.specs.Grammar.{IsRule, Spelled, Says}
 use Rattle.rule_text.specs.declared.fault.Fault.{Fault}
-use Rattle.rule_text.specs.declared.fault.FaultKind.TheVariants.{OutOfRange}
 use Rattle.rule_text.specs.declared.table.Table.{Table}
 use Rattle.rule_text.specs.Words.{in_range, word_of, tested}
 use Rattle.rule_text.specs.Texts.{Placed, words_from}
@@ -17,7 +16,7 @@ use Rattle.rule_text.specs.Rows.{rows_of}
 use Rattle.rule_text.specs.Reading.{Taking, refused, unfit, deep, taken, unfinished, crowded, fits, Reading, too_long, read, Answer, Fits, LevelsFit, table_rows, StandsFor}
 use Rattle.rule_text.proofs.Accepts.{one_rule}
 use Rattle.rule_text.proofs.Alike.{alike}
-use Rattle.rule_text.proofs.Fitting.{read_accepted, tested_in}
+use Rattle.rule_text.proofs.Fitting.{read_accepted, tested_ok}
 use Rattle.rule_text.proofs.Grown.{table_rule}
 use Rattle.rule_text.proofs.Once.{reading_once}
 use Rattle.rule_text.proofs.Verdict.{reading_of}
@@ -58,14 +57,6 @@ decided K text = go (cases_lt 200 (length text))
     go (inl h) = by _ (too_long text h)
     go (inr h) = by _ (reading_of K text h)
 
-tested_word : (K : ℕ) (o : Option Word) (w : Word) → tested K o ≡ Ok w → o ≡ Some w
-tested_word K None w e = cc
-tested_word K (Some v) w e = go (in_range K v) e
-  where
-    go : (b : Bool) → cond b (Ok v) (Err OutOfRange) ≡ Ok w → Some v ≡ Some w
-    go true q = let same : v ≡ w = cc in ap Some same
-    go false q = cc
-
 -- The words behind those taken, of a rule that is read.
 abbrev Rest : ℕ → List Word → List Placed → Result Rule Fault → Type 0
 Rest K before ps (Ok f) =
@@ -83,7 +74,7 @@ rest K end (refused before p ps kind e) = tt
 rest K end (unfit before p ps w t n) = tt
 rest K end (deep before p ps w t f h l) = tt
 rest K end (taken before p ps w r t f h d) =
-    rest_more K before p ps w r (tested_word K (word_of p.bytes) w t) (tested_in K (word_of p.bytes) w t) h (rest K end d)
+    rest_more K before p ps w r (tested_ok K (word_of p.bytes) w t).0 (tested_ok K (word_of p.bytes) w t).1 h (rest K end d)
 rest K end (unfinished before n) = tt
 rest K end (crowded before f d l) = tt
 rest K end (fits before f d l) = ([], refl, subst (λ v. IsRule v f) (sym (append-nil before)) d, refl, tt, l)

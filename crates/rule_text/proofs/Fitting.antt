@@ -1,5 +1,5 @@
 -- The tables that are read are such as judging takes.
-use Rattle.std.proofs.Common.{◌∙◌, ◌≡◌, ℕ, suc, ◌+◌, ◌<◌, ◌≤◌, Bool, true, false, cond, ◌&&◌, ltb, leb, List, [], ◌∷◌, ◌++◌, length, Some, None, Ok, Err, Option, Result, sym, refl, subst, arith}
+use Rattle.std.proofs.Common.{ap, ◌∙◌, ◌≡◌, ℕ, suc, ◌+◌, ◌<◌, ◌≤◌, Bool, true, false, cond, ◌&&◌, ltb, leb, List, [], ◌∷◌, ◌++◌, length, Some, None, Ok, Err, Option, Result, sym, refl, subst, arith}
 use Rattle.routing.specs.Rules.{Rule, truth, mark, condition, non, both, either, ex, eu, eg, ef, ax, au, ag, af}
 use Rattle.rule_text.specs.declared.word.Prefix.{Prefix}
 use Rattle.rule_text.specs.declared.word.Quantifier.{Quantifier}
@@ -59,12 +59,12 @@ rule_in K (alone ws p d) h = rule_in K d h
 rule_in K (or_words ws vs p q d e) h =
     let a = in_append K ws (Or ∷ vs) h in and_from (rule_in_range K p) (rule_in_range K q) (rule_in K d a.0) (rule_in K e a.1)
 
-pub tested_in : (K : ℕ) (o : Option Word) (w : Word) → tested K o ≡ Ok w → in_range K w ≡ true
-tested_in K None w e = cc
-tested_in K (Some v) w e = go (in_range K v) refl e
+pub tested_ok : (K : ℕ) (o : Option Word) (w : Word) → tested K o ≡ Ok w → (o ≡ Some w) × (in_range K w ≡ true)
+tested_ok K None w e = cc
+tested_ok K (Some v) w e = go (in_range K v) refl e
   where
-    go : (b : Bool) → in_range K v ≡ b → cond b (Ok v) (Err OutOfRange) ≡ Ok w → in_range K w ≡ true
-    go true h q = let same : v ≡ w = cc in subst (λ u. in_range K u ≡ true) same h
+    go : (b : Bool) → in_range K v ≡ b → cond b (Ok v) (Err OutOfRange) ≡ Ok w → (Some v ≡ Some w) × (in_range K w ≡ true)
+    go true h q = let same : v ≡ w = cc in (ap Some same, subst (λ u. in_range K u ≡ true) same h)
     go false h q = cc
 
 -- The words of a rule that is read.
@@ -77,7 +77,7 @@ read_words K end (refused before p ps kind e) h = tt
 read_words K end (unfit before p ps w t n) h = tt
 read_words K end (deep before p ps w t f l m) h = tt
 read_words K end (taken before p ps w r t f l d) h =
-    read_words K end d (in_both K before (w ∷ []) h (and_from (in_range K w) true (tested_in K (word_of p.bytes) w t) refl))
+    read_words K end d (in_both K before (w ∷ []) h (and_from (in_range K w) true (tested_ok K (word_of p.bytes) w t).1 refl))
 read_words K end (unfinished before n) h = tt
 read_words K end (crowded before f d l) h = tt
 read_words K end (fits before f d l) h = (before, d, h, l)

@@ -1,6 +1,7 @@
 -- What the reader comes to is what taking the words one by one comes to.
 use Rattle.std.proofs.Common.{◌≡◌, ℕ, suc, ◌≤◌, Bool, true, false, cond, ◌&&◌, leb, List, [], ◌∷◌, ◌++◌, map, length, Some, None, Ok, Err, Option, Result, sym, refl, ap, ◌∙◌, subst, inl, inr, arith}
 use Rattle.std.proofs.lemmas.List.{append_assoc, append-nil}
+use Rattle.std.specs.Option.{option_and_then}
 use Rattle.routing.specs.Rules.{Rule}
 use Rattle.rule_text.specs.declared.word.Word.{Word}
 use Rattle.rule_text.specs.Grammar.{IsRule, CanFollow}
@@ -16,7 +17,7 @@ use Rattle.rule_text.specs.Texts.{Placed, words_from}
 use Rattle.rule_text.specs.Levels.{behind, behind_all, level, has_level}
 use Rattle.rule_text.specs.Rows.{rows_of}
 use Rattle.rule_text.specs.Reading.{Taking, refused, unfit, deep, taken, unfinished, crowded, fits, Reading, read}
-use Rattle.rule_text.proofs.Accepts.{accepts, onto, begin, accepted_as}
+use Rattle.rule_text.proofs.Accepts.{accepts, begin, accepted_as}
 use Rattle.rule_text.proofs.Stands.{Stands, StandsAt, stands_more, ends_as, begins, levels, LevelsAt, levels_more, length_levels}
 
 -- What the words before tell of a state.
@@ -32,7 +33,7 @@ pub known_more : (before : List Word) (s s' : State) (w : Word) → Known before
 known_more before s s' w k e = record {
   stands = subst (λ q. StandsAt q (before ++ (w ∷ []))) e (stands_more s w before k.stands);
   whole_rules = λ rest f d.
-      ap (λ q. onto q (accepts rest)) (sym e) ∙ k.whole_rules (w ∷ rest) f (subst (λ v. IsRule v f) (append_assoc before (w ∷ []) rest) d);
+      ap (λ q. option_and_then (accepts rest) q) (sym e) ∙ k.whole_rules (w ∷ rest) f (subst (λ v. IsRule v f) (append_assoc before (w ∷ []) rest) d);
   open_levels = fold-append behind [] before (w ∷ []) ∙ ap (λ q. behind q w) k.open_levels ∙ subst (λ q. LevelsAt q (behind (levels s) w)) e (levels_more s w);
 }
 
@@ -46,7 +47,7 @@ follows before s s' w k e =
 
 pub follows_not : (before : List Word) (s : State) (w : Word) → Known before s → next_state s w ≡ None → ¬ (CanFollow before w)
 follows_not before s w k e (rest, f, d) =
-    let none : None ≡ Some f = ap (λ q. onto q (accepts rest)) (sym e) ∙ k.whole_rules (w ∷ rest) f d in
+    let none : None ≡ Some f = ap (λ q. option_and_then (accepts rest) q) (sym e) ∙ k.whole_rules (w ∷ rest) f d in
     cc
 
 pub no_rule : (before : List Word) (s : State) → Known before s → rule_read s ≡ None → (f : Rule) → ¬ (IsRule before f)

@@ -79,7 +79,7 @@ abbrev pub tested : ℕ → Option Word → Result Word FaultKind
 tested K None = Err UnknownWord
 tested K (Some w) = cond (in_range K w) (Ok w) (Err OutOfRange)
 
--- The same of a number that has to be below a limit.
+-- The same tests of the number of a mark or a condition: it is one, and it is below the limit.
 abbrev pub number_below : ℕ → Option ℕ → Result ℕ FaultKind
 number_below limit None = Err UnknownWord
 number_below limit (Some n) = cond (nat_lt n limit) (Ok n) (Err OutOfRange)

@@ -1,7 +1,8 @@
 // Rules as text: reading them into tables for judging.
 //
 // specs/ has the language: Words and Texts (bytes to words), Grammar (words to rules, and which
-// word can follow), Levels, Rows (the table of a rule), Faults, and Reading (what each text comes to).
+// word can follow), Levels, Rows (the table of a rule), Faults, and Reading (what each text comes
+// to).
 #![tactic(auto)]
 
 mod emit;
