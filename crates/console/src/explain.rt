@@ -8,7 +8,6 @@ use conditions::set::ConditionSet;
 use conditions::word::Word;
 use judging::shown::{Ending, RouteStep, Shown};
 use plan::file::PlanFile;
-use plan::file::open::OpenedFile;
 use std::alloc::{AllocError, Global};
 use std::fmt;
 use verdicts::verdict::Verdict;
@@ -110,9 +109,12 @@ fn add_rule(
 // The lines of the report of a plan file, each with what explains it.
 pub(crate) fn explained(heap: Global, file: &[u8], report: &[u8]) -> Result<String, Problem> {
     let lines = String::from_utf8_lossy(heap, report)?;
-    let OpenedFile { plan, fault: _ } = PlanFile::open(file);
-    let mut work = Work::new(heap)?;
     let mut out = String::new(heap);
+    let Ok(plan) = PlanFile::open(file) else {
+        out.push_str(&lines)?;
+        return Ok(out);
+    };
+    let mut work = Work::new(heap)?;
     for (rule, line) in lines.lines().enumerate() {
         writeln!(out, "{line}")?;
         add_rule(&mut out, &plan, rule, &mut work)?;

@@ -1,7 +1,8 @@
 // A refusal in words.
 use crate::problem::Source;
-use crate::text::{Printable, rule_text};
+use crate::text::Printable;
 use plan::fault::{FileFault, FileFaultKind, PlanFault};
+use plan::file::rules::rule_text;
 use rule_text::fault::{Fault, FaultKind};
 use std::fmt;
 

@@ -25,7 +25,7 @@ pub struct FileFault {
     pub byte: usize,
 }
 
-#[derive(Clone, Copy)]
+#[derive(Clone, Copy, Debug, PartialEq, Eq)]
 pub enum PlanFault {
     InFile(FileFault),
     // The text of the rule with this number has this fault, whose byte is one of the text.
@@ -33,7 +33,7 @@ pub enum PlanFault {
 }
 
 // Why a plan is not written.
-#[derive(Clone, Copy)]
+#[derive(Clone, Copy, Debug, PartialEq, Eq)]
 pub enum WriteFault {
     // It is no plan: over a limit, at the byte that the field would have, or a text is no rule.
     BadPlan(PlanFault),
