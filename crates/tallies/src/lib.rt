@@ -3,3 +3,5 @@
 
 pub mod latin1;
 pub mod tally;
+#[cfg(test)]
+mod tests;
