@@ -19,9 +19,3 @@ put_then a b c i j k xs ys first second = record {
       second.rest
       ∙ (ap (λ (n : ℕ). drop n b) second.ends ∙ (drop_later (length ys) j b a first.rest ∙ ap (λ (n : ℕ). drop n a) (sym second.ends)));
 }
-
--- What is written ends within the list.
-pub put_inside : (before : List ℕ) (at : ℕ) (bytes after : List ℕ) (next : ℕ) → at ≤ length before → Put before at bytes after next → next ≤ length after
-put_inside before at bytes after next inside p =
-    let front = simp (length-append, length-take) at (ap length p.front) in
-    omega arith

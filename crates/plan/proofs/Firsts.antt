@@ -27,13 +27,6 @@ pub or_assoc : {T : Type 0} (x y z : Option T) → option_or (option_or x y) z �
 or_assoc None y z = refl
 or_assoc (Some x) y z = refl
 
--- The same where a call answered the first.
-pub stop_first : {T : Type 0} (a b r : Option T) → r ≡ a → is_some r ≡ true → option_or a b ≡ r
-stop_first a b r is some = ap (λ (o : Option _). option_or o b) (sym is) ∙ or_some r b some
-
-pub pass_first : {T : Type 0} (a b r : Option T) → r ≡ a → is_some r ≡ false → option_or a b ≡ b
-pass_first a b r is none = ap (λ (o : Option _). option_or o b) (sym is) ∙ or_none r b none
-
 -- What `?` hands on is the fault that a test answered.
 pub err_of : {T E : Type 0} (r : Result T E) (e : E) (f : Option E) → IsErrAnd r (λ x. x ≡ e) → Some e ≡ f → result_err r ≡ f
 err_of (Ok x) e f h is = absurd h
@@ -123,10 +116,6 @@ or_nones (Some x) y e = let z : ◌≡◌ {A = ℕ} 0 1 = cc in absurd (omega ar
 pub none_or : {T : Type 0} (x y : Option T) → x ≡ None → y ≡ None → option_or x y ≡ None
 none_or None y ex ey = ey
 none_or (Some x) y ex ey = ex
-
-pub none_of : {T : Type 0} (x : Option T) → is_some x ≡ false → x ≡ None
-none_of None h = refl
-none_of (Some x) h = let z : true ≡ false = cc in cc
 
 -- A test is passed or not.
 pub cases_none : {T : Type 0} (x : Option T) → (x ≡ None) ⊎ (is_some x ≡ true)

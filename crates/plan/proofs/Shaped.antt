@@ -1,15 +1,14 @@
 -- A file with no fault of its shape: what each test says.
-use Rattle.std.proofs.Common.{◌≡◌, ℕ, zero, suc, ◌+◌, ◌-◌, ◌*◌, ◌<◌, ◌≤◌, Bool, false, not, eqb, ltb, List, length, is_some, Some, None, Option, sym, refl, ap, ◌∙◌, subst, arith}
+use Rattle.std.proofs.Common.{◌≡◌, ℕ, zero, suc, ◌+◌, ◌-◌, ◌*◌, ◌<◌, ◌≤◌, Bool, not, eqb, ltb, List, Some, None, Option, sym, refl, ap, ◌∙◌, subst, arith}
 use Rattle.std.specs.Option.{option_or}
-use Rattle.std.proofs.lemmas.Bool.{eq-eqb, eqb-true, le-ltb, lt-ltb, ltb-false, not-false}
+use Rattle.std.proofs.lemmas.Bool.{eq-eqb, eqb-true, le-ltb, ltb-false, not-false}
 use Rattle.plan.specs.declared.fault.FileFault.{FileFault}
 use Rattle.plan.specs.declared.fault.FileFaultKind.TheVariants.{WrongLength}
 use Rattle.plan.specs.Numbers.{field}
 use Rattle.plan.specs.Format.{first_body, bindings_start, rules_start}
 use Rattle.plan.specs.Contents.{place_count, binding_count, rule_count, binding_byte, rule_byte}
-use Rattle.plan.specs.Faults.{file_fault}
 use Rattle.plan.specs.Shape.{counts_fault, contents_fault, differs, end_fault, ends_fault, faulty, length_fault, lengths_fault, no_place, over, shape_fault, wrong_length}
-use Rattle.plan.proofs.Firsts.{differs_none, faulty_none, none_differs, none_faulty, none_of, none_or, none_over, none_place, or_end, or_nones, over_none, place_none}
+use Rattle.plan.proofs.Firsts.{differs_none, faulty_none, none_differs, none_faulty, none_or, none_over, none_place, or_end, or_nones, over_none, place_none}
 
 -- The length of rule i is in the file and at most 200.
 pub record LengthFits (total : ℕ) (file : List ℕ) (i : ℕ) : Type 0 where
@@ -222,12 +221,7 @@ shape_groups total file =
     regroup (wrong_length (ltb total first_body) total) (counts_fault file) (contents_fault file) (lengths_fault total file 0 (rule_count file))
     (end_fault total file) (ends_fault file 0 (binding_count file))
 
--- A file that is too short for its contents.
-pub shape_cut : (total : ℕ) (file : List ℕ) → total < first_body → shape_fault total file ≡ Some (file_fault WrongLength total)
-shape_cut total file short =
-    shape_groups total file ∙ ap (λ (t : Bool). option_or (faulty t WrongLength total) (later total file)) (lt-ltb total first_body short)
-
--- One that is not: the groups decide in turn.
+-- In a file that is long enough for its contents the groups decide in turn.
 pub shape_whole : (total : ℕ) (file : List ℕ) → first_body ≤ total
     → shape_fault total file ≡ later total file
 shape_whole total file long =
@@ -257,10 +251,6 @@ rule_byte_below total file (suc i) n fits few =
     let before = rule_byte_below total file i n fits (omega arith) in
     let short = (fits i (omega arith)).short in
     omega arith
-
--- What a call knows of a file that it got past the tests.
-pub shaped_of : (file : List ℕ) → is_some (shape_fault (length file) file) ≡ false → Shaped (length file) file
-shaped_of file none = shape_passes (length file) file (none_of (shape_fault (length file) file) none)
 
 -- A later rule begins no earlier.
 pub rule_bytes_up : (file : List ℕ) (i k : ℕ) → rule_byte file i ≤ rule_byte file (k + i)

@@ -66,7 +66,8 @@ pub(crate) fn rules_byte(places: usize, bindings: usize) -> usize
 // 6 where the contents entry at a byte has another kind or start.
 fn check_entry(file: &[u8], at: usize, kind: u16, start: usize) -> Result<(), FileFault>
     requires { at + 8 ≤ length file.now }
-    ensures { result_err result ≡ first_fault (differs kind 2 at file.now ∷ differs start 4 (at + 4) file.now ∷ []) }
+    ensures { result_err result
+        ≡ first_fault (differs kind 2 at file.now ∷ differs start 4 (at + 4) file.now ∷ []) }
 {
     check(u16_at(file, at) == kind, FileFaultKind::BadContents, at)?;
     let same = u32_at(file, at + 4) as usize == start;
@@ -103,7 +104,8 @@ fn check_rules(file: &[u8], total: usize) -> Result<(), FileFault>
     requires few_bindings { binding_count file.now ≤ 4096 }
     requires few_rules { rule_count file.now ≤ 8 }
     ensures { result_err result
-        ≡ first_fault (lengths_fault total file.now 0 (rule_count file.now) ∷ end_fault total file.now ∷ []) }
+        ≡ first_fault (lengths_fault total file.now 0 (rule_count file.now)
+        ∷ end_fault total file.now ∷ []) }
 {
     let mut byte = rules_byte(
         usize::from(u16_at(file, PLACE_COUNT)),

@@ -78,7 +78,9 @@ fn write_entry(kind: u16, count: u16, start: u32, out: &mut [u8], at: usize) -> 
 
 // Writes the contents of so many places, bindings and rules.
 fn write_contents(places: usize, bindings: usize, rules: usize, out: &mut [u8]) -> usize
-    requires counts { (places ≤ 256) × ((bindings ≤ 4096) × (rules ≤ 8)) }
+    requires few_places { places ≤ 256 }
+    requires few_bindings { bindings ≤ 4096 }
+    requires few_rules { rules ≤ 8 }
     requires room { 24 ≤ length out.old }
     ensures { Put out.old 0 (contents places bindings rules) out.new result }
 {
@@ -128,7 +130,8 @@ fn write_bindings(records: &[Binding<Word>], out: &mut [u8], at: usize) -> usize
 
 // Writes a text behind its length.
 fn write_text(text: &[u8], out: &mut [u8], at: usize) -> usize
-    requires { (at + length (text_bytes text.now) ≤ length out.old) × (length text.now ≤ 200) }
+    requires room { at + length (text_bytes text.now) ≤ length out.old }
+    requires short { length text.now ≤ 200 }
     ensures { Put out.old at (text_bytes text.now) out.new result }
 {
     let behind_length = write(&(text.len() as u16).to_le_bytes(), out, at);
@@ -137,7 +140,8 @@ fn write_text(text: &[u8], out: &mut [u8], at: usize) -> usize
 
 // Writes the texts of rules.
 fn write_texts(texts: &[&[u8]], out: &mut [u8], at: usize) -> usize
-    requires { (at + length (flat text_bytes (lent texts.now)) ≤ length out.old) × (Each IsRuleText (lent texts.now)) }
+    requires room { at + length (flat text_bytes (lent texts.now)) ≤ length out.old }
+    requires rules { Each IsRuleText (lent texts.now) }
     ensures { Put out.old at (flat text_bytes (lent texts.now)) out.new result }
 {
     let mut next = at;

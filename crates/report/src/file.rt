@@ -26,7 +26,8 @@ fn refusal_report(fault: PlanFault) -> Report
 // The report of a plan: the lines of its rules, in order.
 fn plan_report(plan: &PlanFile) -> Report
     requires { length (file_plan plan.now).texts ≤ 8 }
-    ensures lines { RuleLines (plan_net (file_plan plan.now)) 0 (file_plan plan.now).texts (report_text result) }
+    ensures lines { RuleLines (plan_net (file_plan plan.now)) 0 (file_plan plan.now).texts
+        (report_text result) }
     ensures fault { result.fault ≡ None }
 {
     let mut report = Report::new(None);

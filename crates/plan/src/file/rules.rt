@@ -27,7 +27,8 @@ impl<'a> PlanFile<'a> {
 
     // The table of a rule; absent beyond the last rule.
     pub fn table(&self, rule: usize) -> Option<Table>
-        ensures { MatchOption result (length (file_plan self.now).texts ≤ rule) (TableOf (file_plan self.now) rule) }
+        ensures { MatchOption result (length (file_plan self.now).texts ≤ rule)
+            (TableOf (file_plan self.now) rule) }
     {
         let text = self.text(rule)?;
         match read_rule::<Word>(text) {

@@ -29,7 +29,8 @@ pub(crate) struct ShapedFile<'a> {
     ghost few_places: { places ≤ 256 },
     ghost few_bindings: { bindings ≤ 4096 },
     ghost room: { rules_start places bindings ≤ length bytes.now },
-    ghost ends: { all_inside (place_count bytes.now) (listed (binding_count bytes.now) (binding_at bytes.now)) ≡ true },
+    ghost ends: { all_inside (place_count bytes.now)
+        (listed (binding_count bytes.now) (binding_at bytes.now)) ≡ true },
 }
 
 impl<'a> ShapedFile<'a> {
@@ -71,7 +72,8 @@ impl<'a> ShapedFile<'a> {
 
     // Tests that the texts are rules.
     pub(crate) fn check_texts(&self) -> Result<(), PlanFault>
-        ensures { MatchResult result (λ _. TextsRead self.now.bytes.now) (λ e. Refused self.now.bytes.now e) }
+        ensures { MatchResult result (λ _. TextsRead self.now.bytes.now)
+            (λ e. Refused self.now.bytes.now e) }
     {
         let mut byte = rules_byte(self.places, self.bindings);
         for rule in 0..self.rules {

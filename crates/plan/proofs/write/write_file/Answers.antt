@@ -11,7 +11,9 @@ pub write_contents-behind_contents-requires : goal.write_contents-behind_content
 write_contents-behind_contents-requires c =
     let p : Plan = plan_with c.args.marks.now c.args.records.now c.args.texts.now in
     record {
-      counts = (c.requires.few_places, (c.requires.few_bindings, omega (arith, lent_length c.args.texts.now, c.requires.few_rules)));
+      few_places = c.requires.few_places;
+      few_bindings = c.requires.few_bindings;
+      few_rules = omega (arith, lent_length c.args.texts.now, c.requires.few_rules);
       room = omega (arith, c.requires.fits, length_encoded p);
     }
 
@@ -40,8 +42,8 @@ write_bindings-behind_bindings-requires c =
     )
 
 pub write_texts-requires : goal.write_texts-requires
-write_texts-requires c = (
-  omega (
+write_texts-requires c = record {
+  room = omega (
     arith,
     c.requires.fits,
     length_encoded (plan_with c.args.marks.now c.args.records.now c.args.texts.now),
@@ -51,9 +53,9 @@ write_texts-requires c = (
     length_marks c.args.marks.now,
     c.write_bindings-behind_bindings.ensures.put.ends,
     length_flat 12 binding_bytes length_binding c.args.records.now,
-  ),
-  c.requires.rules,
-)
+  );
+  rules = c.requires.rules;
+}
 
 pub returns : goal.returns
 returns c =
