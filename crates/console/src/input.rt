@@ -33,7 +33,10 @@ fn read_from<R: Read + Drop>(heap: Global, reader: R, source: Source) -> Result<
             front,
             behind: usize::try_from(behind).unwrap_or(usize::MAX),
         }),
-        Err(error) if error.kind() == ErrorKind::OutOfMemory => Err(Problem::NoMemory),
+        // Want of memory for the front; what the system says of reading has a number.
+        Err(error) if error.kind() == ErrorKind::OutOfMemory && error.raw_os_error().is_none() => {
+            Err(Problem::NoMemory)
+        }
         Err(error) => Err(Problem::Unread(source, error)),
     }
 }
