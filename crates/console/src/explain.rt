@@ -64,10 +64,9 @@ fn add_route(
 // Adds where the rule breaks, and the route that shows it.
 fn add_break(
     out: &mut String,
-    plan: &PlanFile,
+    work: &mut Work<'_>,
     rule: Part<'_>,
     at: RouteStep,
-    work: &mut Work,
 ) -> Result<(), AllocError> {
     let RouteStep { place, setting } = at;
     writeln!(
@@ -75,7 +74,7 @@ fn add_break(
         "  It breaks at the entry {place} with {}.",
         Setting(setting)
     )?;
-    match work.breaking_route(plan, rule, at) {
+    match work.breaking_route(rule, at) {
         Some((shown_of, shown)) => add_route(out, &work.steps, shown, shown_of),
         None => writeln!(
             out,
@@ -85,22 +84,17 @@ fn add_break(
 }
 
 // Adds the text of a rule, what it says, and why it breaks if it does.
-fn add_rule(
-    out: &mut String,
-    plan: &PlanFile,
-    number: usize,
-    work: &mut Work,
-) -> Result<(), AllocError> {
-    let (Some(text), Some(table)) = (plan.text(number), plan.table(number)) else {
+fn add_rule(out: &mut String, work: &mut Work<'_>, number: usize) -> Result<(), AllocError> {
+    let (Some(text), Some(table)) = (work.plan.text(number), work.plan.table(number)) else {
         return Ok(());
     };
     let rule = Part::whole(table.rows());
     writeln!(out, "  Rule: {}", Printable(text))?;
     writeln!(out, "  It says: {rule}.")?;
-    match work.judge(plan, rule).map(|judgement| judgement.verdict) {
+    match work.judge(rule).map(|judgement| judgement.verdict) {
         Ok(Verdict::Holds) => writeln!(out, "  It holds at every entry under every setting."),
         Ok(Verdict::Breaks(place, setting)) => {
-            add_break(out, plan, rule, RouteStep { place, setting }, work)
+            add_break(out, work, rule, RouteStep { place, setting })
         }
         Err(refusal) => writeln!(out, "  It is not judged (refusal {}).", refusal.number()),
     }
@@ -114,10 +108,10 @@ pub(crate) fn explained(heap: Global, file: &[u8], report: &[u8]) -> Result<Stri
         out.push_str(&lines)?;
         return Ok(out);
     };
-    let mut work = Work::new(heap)?;
+    let mut work = Work::new(heap, plan)?;
     for (rule, line) in lines.lines().enumerate() {
         writeln!(out, "{line}")?;
-        add_rule(&mut out, &plan, rule, &mut work)?;
+        add_rule(&mut out, &mut work, rule)?;
     }
     Ok(out)
 }

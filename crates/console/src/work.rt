@@ -1,4 +1,4 @@
-// Room to judge a rule of any plan in, and to show a route.
+// A plan, with room to judge its rules in and to show a route.
 use crate::breaking::{Breaking, breaking_parts};
 use crate::part::Part;
 use conditions::word::Word;
@@ -22,34 +22,36 @@ const SPARE_ROOM: usize = 2 * MOST_PLACES;
 const STEPS_ROOM: usize = MOST_PLACES + 1;
 
 #[derive(Drop)]
-pub(crate) struct Work {
+pub(crate) struct Work<'a> {
+    pub(crate) plan: PlanFile<'a>,
     main: Vec<Word>,
     spare: Vec<Word>,
     pub(crate) steps: Vec<RouteStep>,
 }
 
-impl Work {
-    pub(crate) fn new(heap: Global) -> Result<Work, AllocError> {
+impl<'a> Work<'a> {
+    pub(crate) fn new(heap: Global, plan: PlanFile<'a>) -> Result<Work<'a>, AllocError> {
         let first = RouteStep {
             place: 0,
             setting: 0,
         };
         Ok(Work {
+            plan,
             main: vec![in heap; Word(0); MAIN_ROOM]?,
             spare: vec![in heap; Word(0); SPARE_ROOM]?,
             steps: vec![in heap; first; STEPS_ROOM]?,
         })
     }
 
-    // Judges a rule of a plan.
-    pub(crate) fn judge(&mut self, plan: &PlanFile, rule: Part<'_>) -> Result<Judgement, Refusal> {
-        judge_entries(plan, rule.rows, &mut self.main, &mut self.spare)
+    // Judges a rule of the plan.
+    pub(crate) fn judge(&mut self, rule: Part<'_>) -> Result<Judgement, Refusal> {
+        judge_entries(&self.plan, rule.rows, &mut self.main, &mut self.spare)
     }
 
     // Writes the steps of a route that shows a part at a position.
-    fn route(&mut self, plan: &PlanFile, part: Part<'_>, at: RouteStep) -> Result<Shown, Refusal> {
+    fn route(&mut self, part: Part<'_>, at: RouteStep) -> Result<Shown, Refusal> {
         route(
-            plan,
+            &self.plan,
             part.rows,
             part.number,
             at,
@@ -61,17 +63,16 @@ impl Work {
 
     // Writes the steps of a route that shows why a rule breaks at a position, and answers what it is a route of; absent
     // where no single route shows it.
-    pub(crate) fn breaking_route<'a>(
+    pub(crate) fn breaking_route<'r>(
         &mut self,
-        plan: &PlanFile,
-        rule: Part<'a>,
+        rule: Part<'r>,
         at: RouteStep,
-    ) -> Option<(Breaking<'a>, Shown)> {
+    ) -> Option<(Breaking<'r>, Shown)> {
         let breaking = breaking_parts(rule)?;
         let shown = match breaking {
-            Breaking::Step(p) | Breaking::Route(p) => self.route(plan, p, at),
-            Breaking::Either(q, r) => match self.route(plan, q, at) {
-                Err(Refusal::RowFails) => self.route(plan, r, at),
+            Breaking::Step(p) | Breaking::Route(p) => self.route(p, at),
+            Breaking::Either(q, r) => match self.route(q, at) {
+                Err(Refusal::RowFails) => self.route(r, at),
                 shown => shown,
             },
         };
