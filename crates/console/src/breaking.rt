@@ -1,5 +1,6 @@
-// Which parts of a rule a route is shown of, where the rule breaks.
+// Which parts of a rule a route is shown of, where the rule breaks, and the route.
 use crate::part::Part;
+use judging::shown::{Ending, RouteStep};
 use tables::row::Operation;
 
 #[derive(Clone, Copy)]
@@ -10,6 +11,14 @@ pub(crate) enum Breaking<'a> {
     Route(Part<'a>),
     // A route of the first part does, or where there is none one of the second.
     Either(Part<'a>, Part<'a>),
+}
+
+// A route that shows why a rule breaks: its steps, how it ends, and what it is a route of.
+#[derive(Clone, Copy)]
+pub(crate) struct BreakingRoute<'a> {
+    pub(crate) steps: &'a [RouteStep],
+    pub(crate) ending: Ending,
+    pub(crate) shown_of: Breaking<'a>,
 }
 
 // A rule about every step or route is "not p", and a route of p breaks it; p is an `or` of two such parts in A[p U q].

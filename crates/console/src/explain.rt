@@ -1,12 +1,12 @@
 // The report of a plan for people: below the line of each rule its text, its words, and the route that breaks it.
-use crate::breaking::Breaking;
+use crate::breaking::{Breaking, BreakingRoute};
 use crate::part::Part;
 use crate::problem::Problem;
 use crate::text::Printable;
 use crate::work::Work;
 use conditions::set::ConditionSet;
 use conditions::word::Word;
-use judging::shown::{Ending, RouteStep, Shown};
+use judging::shown::{Ending, RouteStep};
 use plan::file::PlanFile;
 use std::alloc::{AllocError, Global};
 use std::fmt;
@@ -31,8 +31,8 @@ impl fmt::Display for Setting {
 }
 
 // Adds how a route ends. A single step may lead back to where it began.
-fn add_ending(out: &mut String, ending: Ending, shown_of: Breaking<'_>) -> Result<(), AllocError> {
-    match (ending, shown_of) {
+fn add_ending(out: &mut String, route: BreakingRoute<'_>) -> Result<(), AllocError> {
+    match (route.ending, route.shown_of) {
         (Ending::Reaches, _) => writeln!(out, "  and reaches a position that the rule forbids."),
         (Ending::Rests, _) => writeln!(out, "  and rests there: no step leads on."),
         (Ending::Returns(number), Breaking::Step(_)) => writeln!(
@@ -47,18 +47,13 @@ fn add_ending(out: &mut String, ending: Ending, shown_of: Breaking<'_>) -> Resul
 }
 
 // Adds the positions of a route by their numbers, and how it ends.
-fn add_route(
-    out: &mut String,
-    steps: &[RouteStep],
-    shown: Shown,
-    shown_of: Breaking<'_>,
-) -> Result<(), AllocError> {
+fn add_route(out: &mut String, route: BreakingRoute<'_>) -> Result<(), AllocError> {
     writeln!(out, "  This route breaks it:")?;
-    for (number, step) in steps.iter().take(shown.count).enumerate() {
+    for (number, step) in route.steps.iter().enumerate() {
         let RouteStep { place, setting } = *step;
         writeln!(out, "    {number}: place {place}, {}", Setting(setting))?;
     }
-    add_ending(out, shown.ending, shown_of)
+    add_ending(out, route)
 }
 
 // Adds where the rule breaks, and the route that shows it.
@@ -75,7 +70,7 @@ fn add_break(
         Setting(setting)
     )?;
     match work.breaking_route(rule, at) {
-        Some((shown_of, shown)) => add_route(out, &work.steps, shown, shown_of),
+        Some(route) => add_route(out, route),
         None => writeln!(
             out,
             "  No single route shows why a rule of this form breaks."

@@ -1,5 +1,5 @@
 // A plan, with room to judge its rules in and to show a route.
-use crate::breaking::{Breaking, breaking_parts};
+use crate::breaking::{Breaking, BreakingRoute, breaking_parts};
 use crate::part::Part;
 use conditions::word::Word;
 use judging::route::route;
@@ -26,7 +26,7 @@ pub(crate) struct Work<'a> {
     pub(crate) plan: PlanFile<'a>,
     main: Vec<Word>,
     spare: Vec<Word>,
-    pub(crate) steps: Vec<RouteStep>,
+    steps: Vec<RouteStep>,
 }
 
 impl<'a> Work<'a> {
@@ -61,21 +61,25 @@ impl<'a> Work<'a> {
         )
     }
 
-    // Writes the steps of a route that shows why a rule breaks at a position, and answers what it is a route of; absent
-    // where no single route shows it.
+    // A route that shows why a rule breaks at a position; absent where no single route shows it.
     pub(crate) fn breaking_route<'r>(
-        &mut self,
+        &'r mut self,
         rule: Part<'r>,
         at: RouteStep,
-    ) -> Option<(Breaking<'r>, Shown)> {
-        let breaking = breaking_parts(rule)?;
-        let shown = match breaking {
+    ) -> Option<BreakingRoute<'r>> {
+        let shown_of = breaking_parts(rule)?;
+        let shown = match shown_of {
             Breaking::Step(p) | Breaking::Route(p) => self.route(p, at),
             Breaking::Either(q, r) => match self.route(q, at) {
                 Err(Refusal::RowFails) => self.route(r, at),
                 shown => shown,
             },
         };
-        Some((breaking, shown.ok()?))
+        let Shown { count, ending } = shown.ok()?;
+        Some(BreakingRoute {
+            steps: self.steps.get(..count)?,
+            ending,
+            shown_of,
+        })
     }
 }
