@@ -58,5 +58,6 @@ fn short_list(rt: HostRuntime) {
         &mut spare,
     );
     assert_eq!(rt; judged.err(), Some(Refusal::TooShort));
+    assert_eq!(rt; judged.err().map(|refusal| refusal.number()), Some(14));
     assert_eq!(rt; main[0].0, 7);
 }
