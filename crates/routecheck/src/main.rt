@@ -47,29 +47,17 @@ fn breaking_row(table: &[Row]) -> Option<usize> {
     }
 }
 
-// The route of a row at a position of the network.
-fn shown_route(
-    site: &SiteTable<'_, Word>,
-    table: &[Row],
-    row: usize,
-    at: RouteStep,
-) -> Result<Route, Refusal> {
+// Judges a rule at the entries of a network, and looks for a route that breaks it.
+fn find(site: &SiteTable<'_, Word>, table: &[Row]) -> Result<Found, Refusal> {
     let mut main = [Word(0); 96];
     let mut spare = [Word(0); 6];
-    let mut steps = [at; 4];
-    let shown = route(site, table, row, at, &mut main, &mut spare, &mut steps)?;
-    Ok(Route { steps, shown })
-}
-
-// Judges a rule at the entries of a network.
-fn find(marks: &[u32], records: &[Binding<Word>], table: &[Row]) -> Result<Found, Refusal> {
-    let site = SiteTable::open(marks, records)?;
-    let mut main = [Word(0); 96];
-    let mut spare = [Word(0); 6];
-    let judgement = judge_entries(&site, table, &mut main, &mut spare)?;
+    let judgement = judge_entries(site, table, &mut main, &mut spare)?;
     let route = match (judgement.verdict, breaking_row(table)) {
         (Verdict::Breaks(place, setting), Some(row)) => {
-            shown_route(&site, table, row, RouteStep { place, setting }).ok()
+            let at = RouteStep { place, setting };
+            let mut steps = [at; 4];
+            let shown = route(site, table, row, at, &mut main, &mut spare, &mut steps).ok();
+            shown.map(|shown| Route { steps, shown })
         }
         _ => None,
     };
@@ -111,38 +99,46 @@ fn print_found(rt: &impl Print, number: usize, found: &Found) -> io::Result<()> 
     }
 }
 
-// Prints what is found of a rule, or `refused NUMBER`.
-fn print_rule(
+fn print_refusal(rt: &impl Print, refusal: Refusal) -> io::Result<()> {
+    println!(rt; "refused {}", refusal.number())
+}
+
+// Prints what is found of each rule of a network, or `refused NUMBER`.
+fn print_network(
     rt: &impl Print,
-    number: usize,
     marks: &[u32],
     records: &[Binding<Word>],
-    table: &[Row],
+    rules: &[&[Row]],
 ) -> io::Result<()> {
-    match find(marks, records, table) {
-        Ok(found) => print_found(rt, number, &found),
-        Err(refusal) => println!(rt; "refused {}", refusal.number()),
+    let site = match SiteTable::open(marks, records) {
+        Ok(site) => site,
+        Err(refusal) => return print_refusal(rt, refusal),
+    };
+    for (number, table) in rules.iter().enumerate() {
+        match find(&site, table) {
+            Ok(found) => print_found(rt, number, &found)?,
+            Err(refusal) => print_refusal(rt, refusal)?,
+        }
     }
+    Ok(())
 }
 
 fn main(rt: HostRuntime) -> io::Result<()> {
     println!(rt;
         "Network P: 0 (mark 0) to 1 (mark 1) while c0 is on. Rules: 0 AF m1, 1 EF m1 | !c0"
     )?;
-    let (marks, records) = (networks::p_marks(), networks::p_bindings());
-    print_rule(&rt, 0, &marks, &records, &networks::AF_M1.map(Row::from))?;
-    print_rule(
-        &rt,
-        1,
-        &marks,
-        &records,
+    let rules: [&[Row]; 2] = [
+        &networks::AF_M1.map(Row::from),
         &networks::EF_M1_OR_NOT_C0.map(Row::from),
-    )?;
+    ];
+    print_network(&rt, &networks::p_marks(), &networks::p_bindings(), &rules)?;
     println!(rt;
         "Network L: 0 (mark 0) to 1 always, 1 to 2 (mark 1) while c0 is on, 1 to 0 while it is off. Rules: 0 AF m1, 1 AG EF m1, 2 EF m1"
     )?;
-    let (marks, records) = (networks::l_marks(), networks::l_bindings());
-    print_rule(&rt, 0, &marks, &records, &networks::AF_M1.map(Row::from))?;
-    print_rule(&rt, 1, &marks, &records, &networks::AG_EF_M1.map(Row::from))?;
-    print_rule(&rt, 2, &marks, &records, &networks::EF_M1.map(Row::from))
+    let rules: [&[Row]; 3] = [
+        &networks::AF_M1.map(Row::from),
+        &networks::AG_EF_M1.map(Row::from),
+        &networks::EF_M1.map(Row::from),
+    ];
+    print_network(&rt, &networks::l_marks(), &networks::l_bindings(), &rules)
 }
