@@ -47,7 +47,7 @@ fn print_counts(rt: &impl Print, tally: &Tally) -> io::Result<()> {
 }
 
 fn run(rt: &HostRuntime) -> anyhow::Result<()> {
-    let mut tally = Tally::new(rt.alloc(), &REFUSALS)?;
+    let mut tally = Tally::new(&REFUSALS);
     try_cases(rt, "whole", &whole::WHOLE, &mut tally)?;
     try_fields(rt, &mut tally)?;
     try_cases(rt, "texts", &texts::TEXTS, &mut tally)?;

@@ -8,6 +8,11 @@ ghost use Rattle.routing.specs.Bindings.{linked, Inside, Fits};
 use crate::binding::Binding;
 use conditions::set::ConditionSet;
 
+// The most places and the most bindings of a network.
+pub const MOST_PLACES: usize = 256;
+
+pub const MOST_BINDINGS: usize = 4096;
+
 pub trait Network {
     // The sets of settings that the bindings carry.
     type Set: ConditionSet;
@@ -49,8 +54,5 @@ pub trait Network {
 pub fn has_mark<N: Network>(net: &N, place: usize, k: u8) -> bool
     ensures { result ≡ (nat_lt k 32 && bit (slice_index (N.meaning net.now).marks place) k) }
 {
-    match net.marks(place) {
-        Some(marks) => k < 32 && marks >> k & 1 == 1,
-        None => false,
-    }
+    k < 32 && net.marks(place).unwrap_or(0) >> k & 1 == 1
 }

@@ -5,33 +5,25 @@ ghost use Rattle.routing.specs.Refusals.{numbered};
 #[derive(Clone, Copy, Debug, PartialEq, Eq)]
 pub enum Refusal {
     // A binding end is not a place.
-    NoPlace,
+    NoPlace = 8,
     // Over a count limit.
-    OverLimit,
+    OverLimit = 9,
     // A rule table that is not accepted.
-    BadTable,
+    BadTable = 10,
     // The asked row, its operation, the place or the setting does not fit.
-    BadQuery,
+    BadQuery = 11,
     // No binding has the number.
-    NoBinding,
+    NoBinding = 13,
     // A work space or a list is too short.
-    TooShort,
+    TooShort = 14,
     // The asked row does not hold at the asked position.
-    RowFails,
+    RowFails = 26,
 }
 
 impl Refusal {
     pub fn number(self) -> u32
         ensures { result ≡ numbered self }
     {
-        match self {
-            Refusal::NoPlace => 8,
-            Refusal::OverLimit => 9,
-            Refusal::BadTable => 10,
-            Refusal::BadQuery => 11,
-            Refusal::NoBinding => 13,
-            Refusal::TooShort => 14,
-            Refusal::RowFails => 26,
-        }
+        self as u32
     }
 }

@@ -5,17 +5,17 @@ ghost use Rattle.rule_text.specs.Faults.{fault_number};
 #[derive(Clone, Copy, Debug, PartialEq, Eq)]
 pub enum FaultKind {
     // No word of the language, or a stray byte.
-    UnknownWord,
+    UnknownWord = 1,
     // The word cannot follow the words before it; at the end of the text, the rule is unfinished.
-    CannotFollow,
+    CannotFollow = 2,
     // A mark above 31, or a condition that the condition set does not have.
-    OutOfRange,
+    OutOfRange = 3,
     // The word would stand at a 33rd level.
-    TooDeep,
+    TooDeep = 4,
     // The table of the rule would have more than 32 rows.
-    TooManyRows,
+    TooManyRows = 5,
     // The text has more than 200 bytes.
-    TooLong,
+    TooLong = 9,
 }
 
 #[derive(Clone, Copy, Debug, PartialEq, Eq)]
@@ -29,13 +29,6 @@ impl Fault {
     pub fn number(&self) -> u8
         ensures { result ≡ fault_number self.now.kind }
     {
-        match self.kind {
-            FaultKind::UnknownWord => 1,
-            FaultKind::CannotFollow => 2,
-            FaultKind::OutOfRange => 3,
-            FaultKind::TooDeep => 4,
-            FaultKind::TooManyRows => 5,
-            FaultKind::TooLong => 9,
-        }
+        self.kind as u8
     }
 }

@@ -1,69 +1,53 @@
 // Counts of how cases came out.
-ghost use Rattle.std.specs.Prelude.{◌≡◌, ◌≢◌, ◌&&◌, ◌<◌, ℕ, IfOk, Some, fold, length, slice_index, if◌then◌else◌, is_some, nat_lt, option_map};
-ghost use Rattle.std.specs.BTreeMap.{get, values};
+ghost use Rattle.std.specs.Prelude.{◌≡◌, ◌&&◌, ℕ, fold, nat_lt};
 ghost use Rattle.std.specs.List.{list_all};
-ghost use Rattle.std.specs.Ordering.{nat_cmp};
-ghost use Rattle.tallies.specs.Counts.{add_up, one_more};
+ghost use Rattle.tallies.specs.Counts.{add_up, counted, refused_by};
 
-use std::alloc::{AllocError, Global};
-use std::collections::BTreeMap;
+use crate::counts::Counts;
 use std::io;
 
 // How many cases were refused, by the number of the refusal, how many were not, and how many differed from what was
 // expected.
-#[derive(Drop)]
-pub struct Tally {
-    refused: BTreeMap<u8, usize>,
+#[derive(Clone, Copy)]
+pub struct Tally<'a> {
+    // The numbers of the refusals that have to come.
+    refusals: &'a [u8],
+    refused: Counts<256>,
     accepted: usize,
     differences: usize,
 }
 
-// Counts one more, up to the largest number.
-fn add_one(count: &mut usize)
-    ensures { count.new ≡ one_more count.old }
-{
-    *count = count.saturating_add(1);
-}
-
-impl Tally {
+impl<'a> Tally<'a> {
     // No case yet; each of these refusals has to come.
-    pub fn new(heap: Global, refusals: &[u8]) -> Result<Tally, AllocError>
-        ensures accepted { IfOk result (λ t. t.accepted ≡ 0) }
-        ensures differences { IfOk result (λ t. t.differences ≡ 0) }
-        ensures refused { IfOk result (λ t. (j : ℕ) → j < length refusals.now → get nat_cmp t.refused (slice_index refusals.now j) ≡ Some 0) }
+    pub fn new(refusals: &'a [u8]) -> Tally<'a>
+        ensures refusals { result.refusals.now ≡ refusals.now }
+        ensures refused { (k : ℕ) → refused_by result k ≡ 0 }
+        ensures accepted { result.accepted ≡ 0 }
+        ensures differences { result.differences ≡ 0 }
     {
-        let mut refused = BTreeMap::new(heap);
-        for number in refusals {
-            refused.insert(*number, 0)?;
-        }
-        Ok(Tally {
-            refused,
+        Tally {
+            refusals,
+            refused: Counts::new(),
             accepted: 0,
             differences: 0,
-        })
+        }
     }
 
-    // Counts a case by the number of its refusal, if it has one. A refusal that does not have to come is not counted.
+    // Counts a case by the number of its refusal, if it has one.
     pub fn add(&mut self, refusal: Option<u8>)
-        ensures accepted { self.new.accepted ≡ (if is_some refusal then self.old.accepted else one_more self.old.accepted) }
-        ensures differences { self.new.differences ≡ self.old.differences }
-        ensures counted { (k : ℕ) → refusal ≡ Some k → get nat_cmp self.new.refused k ≡ option_map one_more (get nat_cmp self.old.refused k) }
-        ensures others { (k : ℕ) → refusal ≢ Some k → get nat_cmp self.new.refused k ≡ get nat_cmp self.old.refused k }
+        ensures { self.new ≡ counted self.old refusal }
     {
         match refusal {
-            None => add_one(&mut self.accepted),
-            Some(number) => {
-                if let Some(count) = self.refused.get_mut(&number) {
-                    add_one(count);
-                }
-            }
+            None => self.accepted = self.accepted.saturating_add(1),
+            Some(number) => self.refused.add(usize::from(number), 1),
         }
     }
 
     pub fn add_difference(&mut self)
-        ensures { self.new ≡ record self.old { differences = one_more self.old.differences } }
+        ensures { self.new ≡ record self.old { differences = add_up self.old.differences 1 } }
     {
-        add_one(&mut self.differences);
+        let count = &mut self.differences;
+        *count = count.saturating_add(1);
     }
 
     // How many cases were not refused.
@@ -79,18 +63,20 @@ impl Tally {
         self.differences
     }
 
-    // How many cases there were.
+    // How many cases were not refused, or refused by a refusal that has to come.
     pub fn total(&self) -> usize
-        ensures { result ≡ fold add_up self.now.accepted (values self.now.refused) }
+        ensures { result
+            ≡ fold (λ n k. add_up n (refused_by self.now k)) self.now.accepted self.now.refusals.now }
     {
-        self.refused
-            .values()
-            .fold(self.accepted, |total, count| total.saturating_add(*count))
+        self.refusals.iter().fold(self.accepted, |total, number| {
+            total.saturating_add(self.refused.get(usize::from(*number)))
+        })
     }
 
-    // Prints a line for each refusal.
+    // Prints a line for each refusal that has to come.
     pub fn print_refused(&self, rt: &impl Print) -> io::Result<()> {
-        for (number, count) in &self.refused {
+        for number in self.refusals {
+            let count = self.refused.get(usize::from(*number));
             println!(rt; "refused {number}: {count}")?;
         }
         Ok(())
@@ -98,8 +84,12 @@ impl Tally {
 
     // Whether each refusal came, and some case was not refused.
     pub fn is_complete(&self) -> bool
-        ensures { result ≡ list_all (nat_lt 0) (values self.now.refused) && nat_lt 0 self.now.accepted }
+        ensures { result
+            ≡ list_all (λ k. nat_lt 0 (refused_by self.now k)) self.now.refusals.now && nat_lt 0 self.now.accepted }
     {
-        self.refused.values().all(|count| *count > 0) && self.accepted > 0
+        self.refusals
+            .iter()
+            .all(|number| self.refused.get(usize::from(*number)) > 0)
+            && self.accepted > 0
     }
 }

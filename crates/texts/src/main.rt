@@ -46,7 +46,7 @@ fn print_counts(rt: &impl Print, tally: &Tally) -> io::Result<()> {
 }
 
 fn run(rt: &HostRuntime) -> anyhow::Result<()> {
-    let mut tally = Tally::new(rt.alloc(), &REFUSALS)?;
+    let mut tally = Tally::new(&REFUSALS);
     try_valid(rt, &mut tally)?;
     try_damaged(rt, &mut tally)?;
     try_limits(rt, &mut tally)?;

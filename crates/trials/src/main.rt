@@ -23,7 +23,7 @@ const SEED: u64 = 2_718_281_828;
 const NETWORKS: usize = 400;
 
 fn run(rt: &(impl AllocGlobal + Print)) -> anyhow::Result<()> {
-    let mut trial = Trial::new(rt.alloc(), SEED)?;
+    let mut trial = Trial::new(rt.alloc(), SEED);
     for _ in 0..NETWORKS {
         trial.try_network::<Plain>()?;
         trial.tally.add(Seen::PlainNetworks, 1);

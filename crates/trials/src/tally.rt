@@ -1,10 +1,9 @@
 // Counts of what was tried and of what differed.
-use std::alloc::{AllocError, Global};
-use std::collections::BTreeMap;
 use std::io;
+use tallies::counts::Counts;
 
 // What is counted.
-#[derive(Clone, Copy, PartialEq, Eq, PartialOrd, Ord)]
+#[derive(Clone, Copy)]
 pub enum Seen {
     PlainNetworks,
     WordNetworks,
@@ -140,25 +139,24 @@ const WRONG: &[(Seen, &str)] = &[
     (Seen::Refusals, "refusals"),
 ];
 
-#[derive(Drop)]
+// How many kinds of things are counted.
+const KINDS: usize = Seen::Refusals as usize + 1;
+
+#[derive(Clone, Copy)]
 pub struct Tally {
-    counts: BTreeMap<Seen, usize>,
+    counts: Counts<KINDS>,
 }
 
 impl Tally {
     // Nothing is counted yet.
-    pub fn new(heap: Global) -> Result<Tally, AllocError> {
-        let mut counts = BTreeMap::new(heap);
-        for (what, _) in TRIED.iter().chain(WRONG) {
-            counts.insert(*what, 0)?;
+    pub fn new() -> Tally {
+        Tally {
+            counts: Counts::new(),
         }
-        Ok(Tally { counts })
     }
 
     pub fn add(&mut self, what: Seen, more: usize) {
-        if let Some(count) = self.counts.get_mut(&what) {
-            *count = count.saturating_add(more);
-        }
+        self.counts.add(what as usize, more);
     }
 
     // Adds one where it is so.
@@ -167,7 +165,7 @@ impl Tally {
     }
 
     fn count(&self, what: Seen) -> usize {
-        self.counts.get(&what).copied().unwrap_or(0)
+        self.counts.get(what as usize)
     }
 
     // Prints a line for each count.

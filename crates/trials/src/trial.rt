@@ -92,12 +92,12 @@ pub struct Trial {
 }
 
 impl Trial {
-    pub fn new(heap: Global, seed: u64) -> Result<Trial, AllocError> {
-        Ok(Trial {
+    pub fn new(heap: Global, seed: u64) -> Trial {
+        Trial {
             heap,
             random: Random::new(seed),
-            tally: Tally::new(heap)?,
-        })
+            tally: Tally::new(),
+        }
     }
 
     // Tries a network with drawn tables and texts.

@@ -6,7 +6,7 @@ ghost use Rattle.routing.specs.Refusals.{opening};
 ghost use Rattle.routing.specs.Sites.{site_marks, site_meaning, site_records, site_fits};
 
 use crate::binding::Binding;
-use crate::network::Network;
+use crate::network::{MOST_BINDINGS, MOST_PLACES, Network};
 use crate::refusal::Refusal;
 use crate::site::SiteTable;
 use conditions::set::ConditionSet;
@@ -40,10 +40,6 @@ impl<'a, S: ConditionSet> Network for SiteTable<'a, S> {
         self.records.get(number).copied()
     }
 }
-
-const MOST_PLACES: usize = 256;
-
-const MOST_BINDINGS: usize = 4096;
 
 impl<'a, S: ConditionSet> SiteTable<'a, S> {
     // Opens a site table on the lent marks and records, which it then means in their order.
