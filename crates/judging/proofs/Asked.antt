@@ -1,5 +1,6 @@
 -- What a question that is not refused says.
-use Rattle.std.proofs.Common.{◌≡◌, ℕ, ◌<◌, ◌≤◌, Bool, true, false, cond, ◌&&◌, ltb, leb, List, length, get_or, Some, None, refl, arith}
+use Rattle.std.proofs.Common.{◌≡◌, ℕ, ◌<◌, ◌≤◌, Bool, true, false, cond, ◌&&◌, ltb, leb, List, length, get_or, Some, None, sym, refl, arith}
+use Rattle.std.proofs.lemmas.Option.{none-some}
 use Rattle.std.proofs.lemmas.Bool.{and_parts, ltb-true, leb-true}
 use Rattle.routing.specs.declared.refusal.Refusal.TheVariants.{BadTable, BadQuery}
 use Rattle.routing.specs.Net.{Net, Pos, Within, places, settings}
@@ -12,10 +13,11 @@ use Rattle.judging.specs.Queries.{query_fits, query_refusal}
 use Rattle.judging.specs.Shown.{CanShow}
 use Rattle.judging.proofs.RuleRows.{operation_rule}
 
-two_tests : (t u : Bool) → cond t (cond u None (Some BadQuery)) (Some BadTable) ≡ None → (t ≡ true) × (u ≡ true)
-two_tests true true e = (refl, refl)
-two_tests true false e = let z : ◌≡◌ {A = ℕ} 0 1 = cc in absurd (omega arith)
-two_tests false u e = let z : ◌≡◌ {A = ℕ} 0 1 = cc in absurd (omega arith)
+-- Two tests that refuse nothing both pass.
+pub two_tests : {E : Type 0} (first second : E) (t u : Bool) → cond t (cond u None (Some second)) (Some first) ≡ None → (t ≡ true) × (u ≡ true)
+two_tests first second true true e = (refl, refl)
+two_tests first second true false e = absurd (none-some second (sym e))
+two_tests first second false u e = absurd (none-some first (sym e))
 
 pub record Asked (N : Net) (rows : List Row) (r : ℕ) (x : Pos) : Type 0 where
   pub taken : accepted N.conditions rows ≡ true
@@ -25,7 +27,7 @@ pub record Asked (N : Net) (rows : List Row) (r : ℕ) (x : Pos) : Type 0 where
 
 pub asked : (N : Net) (rows : List Row) (r : ℕ) (x : Pos) → query_refusal N rows r x ≡ None → Asked N rows r x
 asked N rows r x e =
-    let t = two_tests (accepted N.conditions rows) (query_fits N rows r x) e in
+    let t = two_tests BadTable BadQuery (accepted N.conditions rows) (query_fits N rows r x) e in
     let q = and_parts (ltb r (length rows)) _ t.1 in
     let o = and_parts (leb 6 (get_or rows r no_row).operation && leb (get_or rows r no_row).operation 8) _ q.1 in
     let six = and_parts (leb 6 (get_or rows r no_row).operation) _ o.0 in

@@ -1,22 +1,11 @@
 -- Lists with a set for each place, one write at a time.
-use Rattle.std.proofs.Common.{◌≡◌, ℕ, zero, suc, ◌^◌, ◌<◌, Bool, true, List, [], ◌∷◌, length, get_or, set, Some, None, Option, refl, ap, ◌∙◌, arith}
+use Rattle.std.proofs.Common.{◌≡◌, ℕ, ◌^◌, ◌<◌, Bool, true, List, length, get_or, set, Some, None, Option, sym, ⊎_elim, refl, ap, ◌∙◌, length-set}
 use Rattle.std.specs.List.{slice_get}
-use Rattle.std.proofs.lemmas.Option.{slice_get_read}
-use Rattle.std.proofs.lemmas.Bool.{false≢true}
+use Rattle.std.proofs.lemmas.Option.{slice_get-get_or, slice_get_past, slice_get_read}
+use Rattle.std.proofs.lemmas.List.{get_or-set_other, get_or-set_same}
+use Rattle.std.proofs.lemmas.Bool.{cases_lt, false≢true}
 use Rattle.routing.specs.Net.{Pos}
 use Rattle.judging.specs.Judged.{in_set, covers}
-
-nth_set_same : {X : Type 0} (xs : List X) (i : ℕ) (v : X) → i < length xs → slice_get (set xs i v) i ≡ Some v
-nth_set_same [] i v l = absurd (omega arith)
-nth_set_same (x ∷ xs) zero v l = refl
-nth_set_same (x ∷ xs) (suc i) v l = nth_set_same xs i v (omega arith)
-
-nth_set_other : {X : Type 0} (xs : List X) (i k : ℕ) (v : X) → (k ≡ i → ⊥) → slice_get (set xs i v) k ≡ slice_get xs k
-nth_set_other [] i k v ne = refl
-nth_set_other (x ∷ xs) zero zero v ne = absurd (ne refl)
-nth_set_other (x ∷ xs) zero (suc k) v ne = refl
-nth_set_other (x ∷ xs) (suc i) zero v ne = refl
-nth_set_other (x ∷ xs) (suc i) (suc k) v ne = nth_set_other xs i k v (λ e. ne (ap suc e))
 
 module _ {S : Type 0} (holds : S → ℕ → Bool) where
   -- The set at the position's place, when it is known.
@@ -30,11 +19,16 @@ module _ {S : Type 0} (holds : S → ℕ → Bool) where
 
   -- A write at the position's place ..
   pub covers_set_same : (xs : List S) (i : ℕ) (v : S) (x : Pos) → i < length xs → x.place ≡ i → covers holds (set xs i v) x ≡ holds v x.setting
-  covers_set_same xs i v x l e = ap (λ o. in_set holds o x.setting) (ap (slice_get (set xs i v)) e ∙ nth_set_same xs i v l)
+  covers_set_same xs i v x l e =
+      covers_at (set xs i v) x i v e (simp length-set l) (sym (get_or-set_same xs i v v l))
 
   -- .. and one elsewhere.
   pub covers_set_other : (xs : List S) (i : ℕ) (v : S) (x : Pos) → (x.place ≡ i → ⊥) → covers holds (set xs i v) x ≡ covers holds xs x
-  covers_set_other xs i v x ne = ap (λ o. in_set holds o x.setting) (nth_set_other xs i x.place v ne)
+  covers_set_other xs i v x ne =
+      ap (λ o. in_set holds o x.setting) (⊎_elim
+      (λ l. slice_get-get_or (set xs i v) x.place v (simp length-set l) ∙ ap Some (get_or-set_other xs i x.place v v ne) ∙ sym (slice_get-get_or xs x.place v l))
+      (λ l. slice_get_past (set xs i v) x.place (simp length-set l) ∙ sym (slice_get_past xs x.place l))
+      (cases_lt x.place (length xs)))
 
   -- A setting that a list has is one of K conditions, where every member of a set is.
   pub covers_below : (K : ℕ) → ((s : S) (a : ℕ) → holds s a ≡ true → a < 2 ^ K) → (xs : List S) (x : Pos) → covers holds xs x ≡ true → x.setting < 2 ^ K

@@ -12,7 +12,6 @@ pub mod Right
 pub mod Rows
 pub mod RuleRows
 pub mod Same
-pub mod Seen
 pub mod Sofar
 pub mod Trails
 pub mod Turns

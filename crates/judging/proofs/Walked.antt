@@ -1,5 +1,6 @@
 -- A walk within a set, written to a list.
 use Rattle.std.proofs.Common.{◌≡◌, ℕ, zero, suc, ◌+◌, ◌<◌, ◌≤◌, Bool, List, [], ◌∷◌, ◌++◌, map, length, take, drop, set, Some, None, Option, sym, refl, ap, ◌∙◌, add-one, arith, length-take}
+use Rattle.std.specs.Option.{MatchOption}
 use Rattle.std.proofs.lemmas.List.{length-map, map-append, drop-drop}
 use Rattle.routing.specs.Net.{Net, Pos}
 use Rattle.judging.specs.declared.shown.Ending.{Ending}
@@ -7,7 +8,6 @@ use Rattle.judging.specs.declared.shown.Ending.TheVariants.{Rests, Returns}
 use Rattle.judging.specs.declared.shown.RouteStep.{RouteStep}
 use Rattle.judging.specs.Chosen.{Chosen, index_of, returns_or, rests_or, next_in, walk_always}
 use Rattle.judging.specs.Steps.{as_pos, as_step, as_steps, as_next, Written}
-use Rattle.judging.proofs.Seen.{steps_of}
 
 -- One record more at the front.
 pub take_set : {X : Type 0} (xs : List X) (k : ℕ) (v : X) → k < length xs → take (k + 1) (set xs k v) ≡ take k xs ++ (v ∷ [])
@@ -21,6 +21,11 @@ take_set xs k v l = rw add-one (go xs k l)
 -- Lists that agree from k on agree from k + 1 on.
 pub drop_more : {X : Type 0} (xs ys : List X) (k : ℕ) → drop k xs ≡ drop k ys → drop (k + 1) xs ≡ drop (k + 1) ys
 drop_more xs ys k e = sym (drop-drop 1 k xs) ∙ ap (drop 1) e ∙ drop-drop 1 k ys
+
+-- Records are their positions.
+steps_of : (xs : List RouteStep) → as_steps (map as_pos xs) ≡ xs
+steps_of [] = refl
+steps_of (x ∷ xs) = ap (λ (ys : List RouteStep). x ∷ ys) (steps_of xs)
 
 -- The route that is chosen, from a written front.
 pub written_front : (c : Chosen) (before after : List RouteStep) (k : ℕ) (e : Ending) → k ≤ length after
@@ -54,10 +59,12 @@ module _ (N : Net) (X : Pos → Bool) (seen : List Pos) (x : Pos) where
   walk_returns zero i e = seen_at seen (index_of x seen) i _ e
   walk_returns (suc f) i e = seen_at seen (index_of x seen) i _ e
 
-  -- It was not, and no more are taken.
-  pub walk_stops : index_of x seen ≡ None → walk_always N X 0 seen x ≡ record { positions = seen; ending = Rests }
+  -- No more are taken.
+  pub walk_ends : (o : Option ℕ) (end : Ending) → index_of x seen ≡ o → MatchOption o (end ≡ Rests) (λ i. end ≡ Returns i)
+      → walk_always N X 0 seen x ≡ record { positions = seen; ending = end }
   unfolding walk_always
-  walk_stops e = unseen seen (index_of x seen) _ e
+  walk_ends None end e is = unseen seen (index_of x seen) _ e ∙ ap (λ (t : Ending). record { positions = seen; ending = t }) (sym is)
+  walk_ends (Some i) end e is = seen_at seen (index_of x seen) i _ e ∙ ap (λ (t : Ending). record { positions = seen; ending = t }) (sym is)
 
   -- It rests, or goes on.
   pub walk_rests : (f : ℕ) → index_of x seen ≡ None → next_in N X x ≡ None → walk_always N X (suc f) seen x ≡ record { positions = seen ++ (x ∷ []); ending = Rests }

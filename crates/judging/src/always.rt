@@ -14,12 +14,7 @@ use routing::network::Network;
 fn find_step(seen: &[RouteStep], at: RouteStep) -> Option<usize>
     ensures { result ≡ index_of (as_pos at) (map as_pos seen.now) }
 {
-    for (i, step) in seen.iter().enumerate() {
-        if at == *step {
-            return Some(i);
-        }
-    }
-    None
+    seen.iter().position(|step| at == *step)
 }
 
 // Walks from `start` within the sets until a position rests or was seen before, and writes the way to the front of `steps`.
@@ -55,14 +50,8 @@ pub(crate) fn walk_within<N: Network>(
             },
         }
     }
-    match find_step(&steps[0..n + 1], at) {
-        Some(i) => Shown {
-            count: n + 1,
-            ending: Ending::Returns(i),
-        },
-        None => Shown {
-            count: n + 1,
-            ending: Ending::Rests,
-        },
+    Shown {
+        count: n + 1,
+        ending: find_step(&steps[0..n + 1], at).map_or(Ending::Rests, Ending::Returns),
     }
 }

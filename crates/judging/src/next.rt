@@ -11,7 +11,7 @@ use crate::shown::RouteStep;
 use conditions::set::ConditionSet;
 use routing::network::Network;
 
-// The entry of the first place with one to which a binding leads from `at`. `entry` gives the setting of a place's entry.
+// The position that the first binding from `at` leads to, of those whose place has an entry. `entry` gives the setting of a place's entry.
 pub(crate) fn first_entry<N: Network, F: Fn(usize) -> Option<u32>>(
     net: &N,
     at: RouteStep,

@@ -45,7 +45,7 @@ fn asked<N: Network>(
     }
 }
 
-// Shows a route for row `row` of the table at a position, which must be a row of operation 6, 7 or 8.
+// Shows a route for row `row` of the table at a position. The row's operation must be `Next`, `Until` or `Always`.
 //
 // Judges the table, writes different positions to the front of `steps`, the first being the asked one,
 // and answers how many there are and how the route ends. The work space is free afterwards.

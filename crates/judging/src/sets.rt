@@ -1,10 +1,19 @@
 // Lists with a set for each place.
-ghost use Rattle.std.specs.Prelude.{◌≡◌, ℕ, ◌^◌, ◌<◌, Bool, true, not, ◌&&◌, ◌||◌, length, Decides, nat_lt};
+ghost use Rattle.std.specs.Prelude.{◌≡◌, ℕ, ◌+◌, ◌*◌, ◌^◌, ◌<◌, ◌≤◌, Bool, true, not, ◌&&◌, ◌||◌, length, Decides, nat_lt};
 ghost use Rattle.routing.specs.Net.{Pos};
-ghost use Rattle.judging.specs.Judged.{covers};
+ghost use Rattle.judging.specs.Judged.{covers, row_part};
 ghost use Rattle.judging.specs.Rules.{Makes};
 
 use conditions::set::ConditionSet;
+
+// The part of the main list for a row.
+pub(crate) fn part_of<S: ConditionSet>(main: &[S], row: usize, places: usize) -> &[S]
+    requires { row * places + places ≤ length main.now }
+    ensures { result.now ≡ row_part places row main.now }
+{
+    let start = row * places;
+    &main[start..start + places]
+}
 
 // Whether the set holds any setting.
 pub(crate) fn is_entered<S: ConditionSet>(set: &S) -> bool

@@ -10,6 +10,7 @@ ghost use Rattle.judging.specs.Steps.{as_pos, chosen_by, Written, HasSteps};
 use crate::always::walk_within;
 use crate::next::next_into;
 use crate::notes::note_rounds;
+use crate::sets::part_of;
 use crate::shown::{Ending, RouteStep, Shown};
 use crate::until::walk_down;
 use crate::work::copy_operand;
@@ -76,7 +77,7 @@ fn walk_until<N: Network>(
     }
 }
 
-// Shows a row of operation 7; the row's own part of the main list and the spare are used on the way.
+// Shows a row of operation `Until`; the row's own part of the main list and the spare are used on the way.
 fn show_until<N: Network>(
     net: &N,
     p: u8,
@@ -107,15 +108,6 @@ fn show_until<N: Network>(
     let part = &mut main[row * n..row * n + n];
     part.copy_from_slice(second);
     walk_until(net, part, first, second, at, steps)
-}
-
-// The part of the main list for a row.
-fn part_of<S: ConditionSet>(main: &[S], row: usize, places: usize) -> &[S]
-    requires { row * places + places ≤ length main.now }
-    ensures { result.now ≡ row_part places row main.now }
-{
-    let start = row * places;
-    &main[start..start + places]
 }
 
 // Whether a judged row has the position.

@@ -9,7 +9,7 @@ ghost use Rattle.judging.specs.Judged.{covers, row_part, PerPlace, HasHalves, Ha
 ghost use Rattle.judging.specs.Shapes.{Shape, Rounds, Named, first_is_row, second_is_row};
 
 use crate::row_rounds::{always_rounds, steps_into, until_rounds};
-use crate::sets::{combine, complement_all, fill, narrowed, widened};
+use crate::sets::{combine, complement_all, fill, narrowed, part_of, widened};
 use conditions::set::ConditionSet;
 use routing::network::{Network, has_mark};
 use tables::row::Operation;
@@ -138,8 +138,7 @@ pub(crate) fn copy_operand<S: ConditionSet>(
     ensures { IfSome named (λ r. half.new ≡ row_part places r main.now) }
 {
     if let Some(r) = named {
-        let start = r as usize * places;
-        half.copy_from_slice(&main[start..start + places]);
+        half.copy_from_slice(part_of(main, r as usize, places));
     }
 }
 

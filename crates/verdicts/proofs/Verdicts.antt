@@ -1,5 +1,5 @@
 -- What an accepted call says, and verdicts on positions that are the same.
-use Rattle.std.proofs.Common.{◌≡◌, ℕ, ◌*◌, ◌<◌, ◌≤◌, Bool, true, false, cond, ◌&&◌, leb, List, length, Some, None, refl, arith}
+use Rattle.std.proofs.Common.{◌≡◌, ℕ, ◌*◌, ◌<◌, ◌≤◌, true, ◌&&◌, leb, List, length, None}
 use Rattle.std.proofs.lemmas.Bool.{and_parts, leb-true}
 use Rattle.conditions.proofs.Picking.{picked_like}
 use Rattle.routing.specs.declared.refusal.Refusal.TheVariants.{BadTable, TooShort}
@@ -8,14 +8,10 @@ use Rattle.tables.specs.declared.row.Row.{Row}
 use Rattle.tables.specs.Tables.{accepted}
 use Rattle.judging.specs.Judged.{judge_refusal}
 use Rattle.judging.proofs.Alike.{Alike}
+use Rattle.judging.proofs.Asked.{two_tests}
 use Rattle.verdicts.specs.declared.verdict.Verdict.{Verdict}
 use Rattle.verdicts.specs.declared.verdict.Verdict.TheVariants.{Holds, Breaks}
 use Rattle.verdicts.specs.Verdicts.{Told}
-
-two_tests : (t u : Bool) → cond t (cond u None (Some TooShort)) (Some BadTable) ≡ None → (t ≡ true) × (u ≡ true)
-two_tests true true e = (refl, refl)
-two_tests true false e = let z : ◌≡◌ {A = ℕ} 0 1 = cc in absurd (omega arith)
-two_tests false u e = let z : ◌≡◌ {A = ℕ} 0 1 = cc in absurd (omega arith)
 
 -- A judgement that is not refused has an accepted table and room.
 pub record Ready (N : Net) (rows : List Row) (main spare : ℕ) : Type 0 where
@@ -25,7 +21,7 @@ pub record Ready (N : Net) (rows : List Row) (main spare : ℕ) : Type 0 where
 
 pub ready : (N : Net) (rows : List Row) (main spare : ℕ) → judge_refusal N rows main spare ≡ None → Ready N rows main spare
 ready N rows main spare e =
-    let t = two_tests (accepted N.conditions rows) (leb (length rows * places N) main && leb (2 * places N) spare) e in
+    let t = two_tests BadTable TooShort (accepted N.conditions rows) (leb (length rows * places N) main && leb (2 * places N) spare) e in
     let both = and_parts (leb (length rows * places N) main) (leb (2 * places N) spare) t.1 in
     record { taken = t.0; room = leb-true _ _ both.0; room_spare = leb-true _ _ both.1 }
 

@@ -1,12 +1,13 @@
-use Rattle.std.proofs.Common.{◌≡◌, ℕ, suc, ◌+◌, ◌-◌, ◌<◌, List, [], map, length, take, drop, set, Option, sym, refl, ap, ◌∙◌, subst, arith, length-set}
+use Rattle.std.proofs.Common.{rules, ◌≡◌, ℕ, suc, ◌+◌, ◌-◌, ◌<◌, List, [], map, length, take, drop, set, Option, sym, refl, ap, ◌∙◌, subst, arith, length-set}
 use Rattle.std.proofs.lemmas.List.{drop-set-lt}
+use Rattle.std.specs.Option.{MatchOption}
 use Rattle.routing.specs.Net.{Net, Pos, places}
 use Rattle.judging.specs.Judged.{covers}
 use Rattle.judging.specs.declared.shown.RouteStep.{RouteStep}
 use Rattle.judging.specs.Chosen.{index_of, walk_always}
 use Rattle.judging.specs.Steps.{as_pos}
-use Rattle.judging.specs.declared.shown.Ending.TheVariants.{Rests}
-use Rattle.judging.proofs.Walked.{next_is, next_is_none, drop_more, written_front, walk_returns, walk_stops, walk_rests, walk_goes_on, seen_more}
+use Rattle.judging.specs.declared.shown.Ending.TheVariants.{Rests, Returns}
+use Rattle.judging.proofs.Walked.{next_is, next_is_none, drop_more, written_front, walk_returns, walk_ends, walk_rests, walk_goes_on, seen_more}
 use Rattle.judging.proofs.always.walk_within.Goals as goal
 
 pub loop-count-init : goal.loop-count-init
@@ -66,22 +67,8 @@ loop-count-preserved g c =
       length-set steps k at ∙ c.loop-count.invariant.2,
     )
 
-pub returns-in-Some-find_step : goal.returns-in-Some-find_step
-returns-in-Some-find_step g c =
-    let N : Net = g.N.Network.meaning c.args.net.now in
-    let X = covers g.N.Set.ConditionSet.holds c.args.sets.now in
-    let steps = c.loop-count.steps in
-    let k = c.loop-count.count in
-    let n = c.places-n.result in
-    let at = c.loop-count.at in
-    let last : k ≡ n + 1 = omega arith in
-    written_front _ c.args.steps.now steps (n + 1) _ (let l = c.loop-count.invariant.2 in omega arith)
-    (c.loop-count.invariant.0 ∙ ap (λ j. walk_always N X (places N + 1 - k) (map as_pos (take j steps)) (as_pos at)) last
-    ∙ walk_returns N X (map as_pos (take (n + 1) steps)) (as_pos at) _ c.in-Some-find_step.i (from_start at steps (n + 1) _ c.in-Some-find_step.ensures))
-    (subst (λ (j : ℕ). drop j steps ≡ drop j c.args.steps.now) last c.loop-count.invariant.1)
-
-pub returns-in-None-find_step : goal.returns-in-None-find_step
-returns-in-None-find_step g c =
+pub returns : goal.returns
+returns g c =
     let N : Net = g.N.Network.meaning c.args.net.now in
     let X = covers g.N.Set.ConditionSet.holds c.args.sets.now in
     let steps = c.loop-count.steps in
@@ -90,8 +77,9 @@ returns-in-None-find_step g c =
     let at = c.loop-count.at in
     let last : k ≡ n + 1 = omega arith in
     let empty : places N + 1 - k ≡ 0 = (let v = c.places-n.ensures in omega arith) in
+    let ends : MatchOption c.find_step-2.result (c.map_or.result ≡ Rests) (λ i. c.map_or.result ≡ Returns i) = search rules in
     written_front _ c.args.steps.now steps (n + 1) _ (let l = c.loop-count.invariant.2 in omega arith)
     (c.loop-count.invariant.0 ∙ ap (λ j. walk_always N X (places N + 1 - k) (map as_pos (take j steps)) (as_pos at)) last
     ∙ ap (λ f. walk_always N X f (map as_pos (take (n + 1) steps)) (as_pos at)) empty
-    ∙ walk_stops N X (map as_pos (take (n + 1) steps)) (as_pos at) (from_start at steps (n + 1) _ c.in-None-find_step.ensures))
+    ∙ walk_ends N X (map as_pos (take (n + 1) steps)) (as_pos at) _ c.map_or.result (from_start at steps (n + 1) _ c.find_step-2.ensures) ends)
     (subst (λ (j : ℕ). drop j steps ≡ drop j c.args.steps.now) last c.loop-count.invariant.1)
