@@ -14,11 +14,11 @@ use crate::layout::{
     RULE_COUNT, RULES,
 };
 use crate::shape::{check, rules_byte};
+use crate::text::check_text;
 use conditions::word::Word;
 use output::put;
 use routing::binding::Binding;
 use routing::site::SiteTable;
-use rule_text::read::read_rule;
 
 // The length of the file whose rules begin at `start`, or the first limit that the texts do not keep.
 fn file_length(start: usize, texts: &[&[u8]]) -> Result<usize, FileFault>
@@ -50,9 +50,7 @@ fn check_texts(texts: &[&[u8]]) -> Result<(), PlanFault>
         (λ e. BadText (lent texts.now) e) }
 {
     for (number, text) in texts.iter().enumerate() {
-        if let Err(fault) = read_rule::<Word>(text) {
-            return Err(PlanFault::InText(number, fault));
-        }
+        check_text(number, text)?;
         known_bytes(text);
     }
     Ok(())

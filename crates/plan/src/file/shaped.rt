@@ -12,8 +12,7 @@ use crate::fault::{FileFault, PlanFault};
 use crate::fields::{text_of, u16_at};
 use crate::layout::{BINDING_COUNT, PLACE_COUNT, RULE_COUNT};
 use crate::shape::{check_shape, rules_byte};
-use conditions::word::Word;
-use rule_text::read::read_rule;
+use crate::text::check_text;
 
 // The bytes that the caller lends, and their counts.
 #[derive(Clone, Copy)]
@@ -78,9 +77,7 @@ impl<'a> ShapedFile<'a> {
         let mut byte = rules_byte(self.places, self.bindings);
         for rule in 0..self.rules {
             let text = text_of(self.bytes, byte);
-            if let Err(fault) = read_rule::<Word>(text) {
-                return Err(PlanFault::InText(rule, fault));
-            }
+            check_text(rule, text)?;
             byte += 2 + text.len();
         }
         Ok(())
