@@ -13,7 +13,7 @@ use crate::layout::{
     BINDING_BYTES, BINDINGS, FIRST_BODY, MOST_RULES, MOST_TEXT_BYTES, PLACE_BYTES, PLACES,
     RULE_COUNT, RULES,
 };
-use crate::shape::{check, rules_byte};
+use crate::shape::{binding_byte, check};
 use crate::text::check_text;
 use conditions::word::Word;
 use output::put;
@@ -173,7 +173,7 @@ pub fn write_plan(
 {
     let marks = site.lent_marks();
     let records = site.lent_records();
-    let length = file_length(rules_byte(marks.len(), records.len()), texts)?;
+    let length = file_length(binding_byte(marks.len(), records.len()), texts)?;
     check_texts(texts)?;
     if out.len() < length {
         return Err(WriteFault::TooShort);

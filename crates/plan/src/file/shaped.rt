@@ -11,7 +11,7 @@ ghost use Rattle.plan.specs.Shape.{shape_fault};
 use crate::fault::{FileFault, PlanFault};
 use crate::fields::{text_of, u16_at};
 use crate::layout::{BINDING_COUNT, PLACE_COUNT, RULE_COUNT};
-use crate::shape::{check_shape, rules_byte};
+use crate::shape::{binding_byte, check_shape};
 use crate::text::check_text;
 
 // The bytes that the caller lends, and their counts.
@@ -51,7 +51,7 @@ impl<'a> ShapedFile<'a> {
         requires { rule ≤ rule_count self.now.bytes.now }
         ensures { result ≡ rule_byte self.now.bytes.now rule }
     {
-        let mut byte = rules_byte(self.places, self.bindings);
+        let mut byte = binding_byte(self.places, self.bindings);
         for earlier in 0..rule {
             byte += 2 + usize::from(u16_at(self.bytes, byte));
         }
@@ -74,7 +74,7 @@ impl<'a> ShapedFile<'a> {
         ensures { MatchResult result (λ _. TextsRead self.now.bytes.now)
             (λ e. Refused self.now.bytes.now e) }
     {
-        let mut byte = rules_byte(self.places, self.bindings);
+        let mut byte = binding_byte(self.places, self.bindings);
         for rule in 0..self.rules {
             let text = text_of(self.bytes, byte);
             check_text(rule, text)?;
