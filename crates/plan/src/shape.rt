@@ -134,11 +134,11 @@ fn check_ends(file: &[u8]) -> Result<(), FileFault>
     ensures { result_err result ≡ ends_fault file.now 0 (binding_count file.now) }
 {
     let places = usize::from(u16_at(file, PLACE_COUNT));
-    let mut byte = binding_byte(places, 0);
-    for binding in 0..u16_at(file, BINDING_COUNT) {
+    let bindings = usize::from(u16_at(file, BINDING_COUNT));
+    for number in 0..bindings {
+        let byte = binding_byte(places, number);
         check_end(file, byte, places)?;
         check_end(file, byte + 2, places)?;
-        byte += BINDING_BYTES;
     }
     Ok(())
 }
