@@ -19,6 +19,11 @@ Each {A = A} P xs = (i : ℕ) (x : A) → slice_get xs i ≡ Some x → P x
 abbrev pub IsRuleText : List ℕ → Type 0
 IsRuleText t = (f : Rule) × Reading 6 t (Ok f)
 
+-- The text of rule i is refused.
+abbrev pub TextRefused : ℕ → List ℕ → PlanFault → Type 0
+TextRefused i t (InFile f) = ⊥
+TextRefused i t (InText j f) = (j ≡ i) × Reading 6 t (Err f)
+
 -- The texts that the fields of a file hold are rules.
 abbrev pub TextsRead : List ℕ → Type 0
 TextsRead file = (i : ℕ) → i < rule_count file → IsRuleText (text_at file i)

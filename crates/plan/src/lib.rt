@@ -13,4 +13,5 @@ pub mod format;
 mod layout;
 pub mod oversize;
 mod shape;
+mod text;
 pub mod write;

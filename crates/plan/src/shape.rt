@@ -54,13 +54,13 @@ fn check_counts(file: &[u8]) -> Result<(), FileFault>
     check_limit(file, RULE_COUNT, MOST_RULES)
 }
 
-// The byte where the body of the rules begins, behind those of the places and of the bindings.
-pub(crate) fn rules_byte(places: usize, bindings: usize) -> usize
+// The byte where the binding with this number begins. Behind the last binding the rules begin.
+pub(crate) fn binding_byte(places: usize, number: usize) -> usize
     requires places { places < 65536 }
-    requires bindings { bindings < 65536 }
-    ensures { result ≡ rules_start places bindings }
+    requires number { number < 65536 }
+    ensures { result ≡ rules_start places number }
 {
-    FIRST_BODY + PLACE_BYTES * places + BINDING_BYTES * bindings
+    FIRST_BODY + PLACE_BYTES * places + BINDING_BYTES * number
 }
 
 // 6 where the contents entry at a byte has another kind or start.
@@ -81,8 +81,8 @@ fn check_contents(file: &[u8]) -> Result<(), FileFault>
     let places = usize::from(u16_at(file, PLACE_COUNT));
     let bindings = usize::from(u16_at(file, BINDING_COUNT));
     check_entry(file, 0, PLACES, FIRST_BODY)?;
-    check_entry(file, 8, BINDINGS, rules_byte(places, 0))?;
-    check_entry(file, 16, RULES, rules_byte(places, bindings))
+    check_entry(file, 8, BINDINGS, binding_byte(places, 0))?;
+    check_entry(file, 16, RULES, binding_byte(places, bindings))
 }
 
 // The length of the text of the rule that begins at `byte`: it lies in the file and keeps to its limit.
@@ -107,7 +107,7 @@ fn check_rules(file: &[u8], total: usize) -> Result<(), FileFault>
         ≡ first_fault (lengths_fault total file.now 0 (rule_count file.now)
         ∷ end_fault total file.now ∷ []) }
 {
-    let mut byte = rules_byte(
+    let mut byte = binding_byte(
         usize::from(u16_at(file, PLACE_COUNT)),
         usize::from(u16_at(file, BINDING_COUNT)),
     );
@@ -134,11 +134,11 @@ fn check_ends(file: &[u8]) -> Result<(), FileFault>
     ensures { result_err result ≡ ends_fault file.now 0 (binding_count file.now) }
 {
     let places = usize::from(u16_at(file, PLACE_COUNT));
-    let mut byte = rules_byte(places, 0);
-    for binding in 0..u16_at(file, BINDING_COUNT) {
+    let bindings = usize::from(u16_at(file, BINDING_COUNT));
+    for number in 0..bindings {
+        let byte = binding_byte(places, number);
         check_end(file, byte, places)?;
         check_end(file, byte + 2, places)?;
-        byte += BINDING_BYTES;
     }
     Ok(())
 }

@@ -13,12 +13,12 @@ use crate::layout::{
     BINDING_BYTES, BINDINGS, FIRST_BODY, MOST_RULES, MOST_TEXT_BYTES, PLACE_BYTES, PLACES,
     RULE_COUNT, RULES,
 };
-use crate::shape::{check, rules_byte};
+use crate::shape::{binding_byte, check};
+use crate::text::check_text;
 use conditions::word::Word;
 use output::put;
 use routing::binding::Binding;
 use routing::site::SiteTable;
-use rule_text::read::read_rule;
 
 // The length of the file whose rules begin at `start`, or the first limit that the texts do not keep.
 fn file_length(start: usize, texts: &[&[u8]]) -> Result<usize, FileFault>
@@ -50,9 +50,7 @@ fn check_texts(texts: &[&[u8]]) -> Result<(), PlanFault>
         (λ e. BadText (lent texts.now) e) }
 {
     for (number, text) in texts.iter().enumerate() {
-        if let Err(fault) = read_rule::<Word>(text) {
-            return Err(PlanFault::InText(number, fault));
-        }
+        check_text(number, text)?;
         known_bytes(text);
     }
     Ok(())
@@ -175,7 +173,7 @@ pub fn write_plan(
 {
     let marks = site.lent_marks();
     let records = site.lent_records();
-    let length = file_length(rules_byte(marks.len(), records.len()), texts)?;
+    let length = file_length(binding_byte(marks.len(), records.len()), texts)?;
     check_texts(texts)?;
     if out.len() < length {
         return Err(WriteFault::TooShort);

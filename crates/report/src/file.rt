@@ -5,7 +5,6 @@ ghost use Rattle.plan.specs.Files.{file_plan};
 ghost use Rattle.report.specs.Lines.{refused_line, RuleLines};
 ghost use Rattle.report.specs.Outcomes.{report_text, FrontReport, ReportOf};
 
-use crate::lines::add_refusal;
 use crate::outcome::Report;
 use crate::rule::{MAIN_ROOM, SPARE_ROOM, add_rule};
 use conditions::word::Word;
@@ -19,7 +18,7 @@ fn refusal_report(fault: PlanFault) -> Report
     ensures fault { result.fault ≡ Some fault }
 {
     let mut report = Report::new(Some(fault));
-    add_refusal(&mut report, fault);
+    report.add_refusal(fault);
     report
 }
 

@@ -4,7 +4,6 @@ ghost use Rattle.tables.specs.Tables.{accepted};
 ghost use Rattle.rule_text.specs.Reading.{table_rows};
 ghost use Rattle.report.specs.Rules.{LineAdded};
 
-use crate::lines::add_verdict;
 use crate::outcome::Report;
 use routing::network::Network;
 use rule_text::table::Table;
@@ -30,6 +29,6 @@ pub(crate) fn add_rule<N: Network>(
     ensures { LineAdded (N.meaning net.now) rule (table_rows table.now) report.old report.new }
 {
     if let Ok(judgement) = judge_entries(net, table.rows(), main, spare) {
-        add_verdict(report, rule, judgement);
+        report.add_verdict(rule, judgement);
     }
 }

@@ -8,7 +8,7 @@ use crate::fields::{u16_at, u32_at, u64_at};
 use crate::file::PlanFile;
 use crate::file::shaped::ShapedFile;
 use crate::layout::{FIRST_BODY, PLACE_BYTES};
-use crate::shape::rules_byte;
+use crate::shape::binding_byte;
 use conditions::set::ConditionSet;
 use conditions::word::Word;
 use routing::binding::Binding;
@@ -58,7 +58,7 @@ impl<'a> Network for PlanFile<'a> {
         if number >= self.file.bindings {
             return None;
         }
-        let byte = rules_byte(self.file.places, number);
+        let byte = binding_byte(self.file.places, number);
         Some(Binding {
             from: u16_at(self.file.bytes, byte),
             to: u16_at(self.file.bytes, byte + 2),

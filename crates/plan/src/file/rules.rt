@@ -31,10 +31,7 @@ impl<'a> PlanFile<'a> {
             (TableOf (file_plan self.now) rule) }
     {
         let text = self.text(rule)?;
-        match read_rule::<Word>(text) {
-            Ok(table) => Some(table),
-            Err(_) => unreachable(),
-        }
+        Some(read_rule::<Word>(text).unwrap())
     }
 }
 

@@ -11,9 +11,8 @@ ghost use Rattle.plan.specs.Shape.{shape_fault};
 use crate::fault::{FileFault, PlanFault};
 use crate::fields::{text_of, u16_at};
 use crate::layout::{BINDING_COUNT, PLACE_COUNT, RULE_COUNT};
-use crate::shape::{check_shape, rules_byte};
-use conditions::word::Word;
-use rule_text::read::read_rule;
+use crate::shape::{binding_byte, check_shape};
+use crate::text::check_text;
 
 // The bytes that the caller lends, and their counts.
 #[derive(Clone, Copy)]
@@ -52,7 +51,7 @@ impl<'a> ShapedFile<'a> {
         requires { rule ≤ rule_count self.now.bytes.now }
         ensures { result ≡ rule_byte self.now.bytes.now rule }
     {
-        let mut byte = rules_byte(self.places, self.bindings);
+        let mut byte = binding_byte(self.places, self.bindings);
         for earlier in 0..rule {
             byte += 2 + usize::from(u16_at(self.bytes, byte));
         }
@@ -75,12 +74,10 @@ impl<'a> ShapedFile<'a> {
         ensures { MatchResult result (λ _. TextsRead self.now.bytes.now)
             (λ e. Refused self.now.bytes.now e) }
     {
-        let mut byte = rules_byte(self.places, self.bindings);
+        let mut byte = binding_byte(self.places, self.bindings);
         for rule in 0..self.rules {
             let text = text_of(self.bytes, byte);
-            if let Err(fault) = read_rule::<Word>(text) {
-                return Err(PlanFault::InText(rule, fault));
-            }
+            check_text(rule, text)?;
             byte += 2 + text.len();
         }
         Ok(())

@@ -8,27 +8,25 @@ use Rattle.plan.proofs.shape.check_ends.Goals as goal
 pub returns-in_err-check_end : goal.returns-in_err-check_end
 returns-in_err-check_end c =
     let file = c.args.file.now in
-    let byte = c.loop-binding.byte in
+    let byte = c.binding_byte-byte.result in
     let is = ap (λ o. option_or o (no_place (byte + 2) file)) c.in_err-check_end.ensures in
     err_of c.from_residual.result _ _ c.from_residual.ensures.1
-    (sym (c.loop-binding.invariant.1 ∙ ends_stop file c.loop-binding.binding (binding_count file) byte _ (omega arith) c.loop-binding.invariant.0 is refl))
+    (sym (c.loop-number.invariant ∙ ends_stop file c.loop-number.number (binding_count file) byte _ (omega arith) (omega arith) is refl))
 
 pub returns-in_err-check_end-2 : goal.returns-in_err-check_end-2
 returns-in_err-check_end-2 c =
     let file = c.args.file.now in
-    let byte = c.loop-binding.byte in
+    let byte = c.binding_byte-byte.result in
     let is = c.in_err-check_end-2.ensures ∙ ap (λ o. option_or o (no_place (byte + 2) file)) c.in_ok-check_end.ensures in
     err_of c.from_residual-in_err-check_end-2.result _ _ c.from_residual-in_err-check_end-2.ensures.1
-    (sym (c.loop-binding.invariant.1 ∙ ends_stop file c.loop-binding.binding (binding_count file) byte _ (omega arith) c.loop-binding.invariant.0 is refl))
+    (sym (c.loop-number.invariant ∙ ends_stop file c.loop-number.number (binding_count file) byte _ (omega arith) (omega arith) is refl))
 
-pub loop-binding-preserved : goal.loop-binding-preserved
-loop-binding-preserved c =
+pub loop-number-preserved : goal.loop-number-preserved
+loop-number-preserved c =
     let file = c.args.file.now in
-    let byte = c.loop-binding.byte in
-    let is = c.in_ok-check_end-2.ensures ∙ ap (λ o. option_or o (no_place (byte + 2) file)) c.in_ok-check_end.ensures in (
-      omega arith,
-      c.loop-binding.invariant.1 ∙ ends_go file c.loop-binding.binding (binding_count file) byte _ (omega arith) c.loop-binding.invariant.0 is refl,
-    )
+    let byte = c.binding_byte-byte.result in
+    let is = c.in_ok-check_end-2.ensures ∙ ap (λ o. option_or o (no_place (byte + 2) file)) c.in_ok-check_end.ensures in
+    c.loop-number.invariant ∙ ends_go file c.loop-number.number (binding_count file) byte _ (omega arith) (omega arith) is refl
 
 pub returns : goal.returns
-returns c = sym (c.loop-binding.invariant.1 ∙ ends_none c.args.file.now c.loop-binding.binding (binding_count c.args.file.now) (omega arith))
+returns c = sym (c.loop-number.invariant ∙ ends_none c.args.file.now c.loop-number.number (binding_count c.args.file.now) (omega arith))

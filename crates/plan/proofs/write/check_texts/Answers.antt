@@ -1,23 +1,14 @@
 use Rattle.std.proofs.Common.{◌^◌, ◌<◌}
 use Rattle.plan.specs.Reading.{Each, IsRuleText}
-use Rattle.plan.proofs.Lent.{lent_nth, each_lent_more, each_lent_all}
+use Rattle.plan.proofs.Lent.{each_lent_more, each_lent_all}
 use Rattle.plan.proofs.write.check_texts.Goals as goal
 
-pub returns-in-Err : goal.returns-in-Err
-returns-in-Err c = record {
-  text = _;
-  here = lent_nth c.args.texts.now c.loop-number.number _ c.loop-number-test.true;
-  refused = c.in-Err.ensures.answer;
-  before = c.loop-number.invariant.0;
-}
-
 pub loop-number-preserved : goal.loop-number-preserved
-loop-number-preserved c =
-    let text = c.in_default.ensures.answer in (
-      each_lent_more c.args.texts.now IsRuleText c.loop-number.number _ c.loop-number-test.true c.loop-number.invariant.0 (text.0, text.1),
-      each_lent_more c.args.texts.now (Each (λ b. b < 2 ^ 8)) c.loop-number.number _ c.loop-number-test.true c.loop-number.invariant.1
-          c.known_bytes.ensures,
-    )
+loop-number-preserved c = (
+  each_lent_more c.args.texts.now IsRuleText c.loop-number.number _ c.loop-number-test.true c.loop-number.invariant.0 c.in_ok-check_text.ensures,
+  each_lent_more c.args.texts.now (Each (λ b. b < 2 ^ 8)) c.loop-number.number _ c.loop-number-test.true c.loop-number.invariant.1
+      c.known_bytes.ensures,
+)
 
 pub returns : goal.returns
 returns c = (

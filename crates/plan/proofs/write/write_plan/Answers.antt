@@ -43,18 +43,18 @@ limits_are texts start fault marks records at is =
 pub returns-in_err-length : goal.returns-in_err-length
 returns-in_err-length c =
     refused (site_plan c.args.site.now c.args.texts.now) c.args.out.now c.from_residual.result _ c.from_residual.ensures.1
-    (limits_are c.args.texts.now c.rules_byte.result _ c.lent_marks-marks.ensures c.lent_records-records.ensures c.rules_byte.ensures c.in_err-length.ensures.fault)
+    (limits_are c.args.texts.now c.binding_byte.result _ c.lent_marks-marks.ensures c.lent_records-records.ensures c.binding_byte.ensures c.in_err-length.ensures.fault)
 
 pub returns-in_err-check_texts : goal.returns-in_err-check_texts
 returns-in_err-check_texts c =
-    let none = limits_are c.args.texts.now c.rules_byte.result _ c.lent_marks-marks.ensures c.lent_records-records.ensures c.rules_byte.ensures c.in_ok-length.ensures.fault in
+    let none = limits_are c.args.texts.now c.binding_byte.result _ c.lent_marks-marks.ensures c.lent_records-records.ensures c.binding_byte.ensures c.in_ok-length.ensures.fault in
     refused (site_plan c.args.site.now c.args.texts.now) c.args.out.now c.from_residual-in_err-check_texts.result _ c.from_residual-in_err-check_texts.ensures.1
     (bad_plan _ (length c.args.out.now) c.in_err-check_texts.field-0.0 none c.in_err-check_texts.ensures)
 
 pub returns-then-out-length : goal.returns-then-out-length
 returns-then-out-length c =
     let p : Plan = site_plan c.args.site.now c.args.texts.now in
-    let none = limits_are c.args.texts.now c.rules_byte.result _ c.lent_marks-marks.ensures c.lent_records-records.ensures c.rules_byte.ensures c.in_ok-length.ensures.fault in (
+    let none = limits_are c.args.texts.now c.binding_byte.result _ c.lent_marks-marks.ensures c.lent_records-records.ensures c.binding_byte.ensures c.in_ok-length.ensures.fault in (
       (none, c.in_ok-check_texts.ensures.0, omega (arith, c.in_ok-length.ensures.long, length_encoded p, ap length c.lent_marks-marks.ensures, ap length c.lent_records-records.ensures)),
       refl,
     )
@@ -65,7 +65,7 @@ write_file-requires c =
     record {
       few_places = omega (arith, c.args.site.now.few_places, ap length c.lent_marks-marks.ensures);
       few_bindings = omega (arith, c.args.site.now.few_bindings, ap length c.lent_records-records.ensures);
-      few_rules = few_from_none c.rules_byte.result p.texts (sym c.in_ok-length.ensures.fault);
+      few_rules = few_from_none c.binding_byte.result p.texts (sym c.in_ok-length.ensures.fault);
       rules = c.in_ok-check_texts.ensures.0;
       fits = omega (arith, c.in_ok-length.ensures.long, length_encoded p);
     }
@@ -88,7 +88,7 @@ returns c =
           record {
             few_places = site.few_places;
             few_bindings = site.few_bindings;
-            few_rules = few_from_none c.rules_byte.result (lent c.args.texts.now) (sym c.in_ok-length.ensures.fault);
+            few_rules = few_from_none c.binding_byte.result (lent c.args.texts.now) (sym c.in_ok-length.ensures.fault);
             marks_fit = subst (Each (λ m. m < 2 ^ 32)) c.lent_marks-marks.ensures c.write_file.ensures.marks_fit;
             bindings_fit = bindings_fit _ (site_records site) site.ends (subst (Each (λ b. b.set.0 < 2 ^ 64)) c.lent_records-records.ensures c.write_file.ensures.sets_fit);
             texts_fit = c.in_ok-check_texts.ensures.1;

@@ -1,9 +1,10 @@
-use Rattle.std.proofs.Common.{◌≡◌, ℕ, ◌<◌, ◌≤◌, List, length, Ok, Err, Result, sym, subst, arith}
+use Rattle.std.proofs.Common.{◌≡◌, ℕ, ◌<◌, ◌≤◌, List, length, Ok, Err, Result, IsOk, refl, sym, subst, arith}
 use mathlib.Core.Logic.{∥∥₁_elim}
 use Rattle.std.specs.Option.{MatchOption}
 use Rattle.routing.specs.Rules.{Rule}
 use Rattle.rule_text.specs.declared.fault.Fault.{Fault}
-use Rattle.rule_text.specs.Reading.{Reading}
+use Rattle.rule_text.specs.declared.table.Table.{Table}
+use Rattle.rule_text.specs.Reading.{Answer, Reading}
 use Rattle.rule_text.proofs.Once.{reading_once}
 use Rattle.plan.specs.Contents.{listed, rule_count, text_at}
 use Rattle.plan.specs.Files.{file_plan, TableOf}
@@ -26,9 +27,14 @@ never file text i e below same reads refused =
     let z : ◌≡◌ {A = ℕ} 0 1 = cc in
     omega arith
 
-pub unreachable-requires : goal.unreachable-requires
-unreachable-requires c =
+-- A text that is a rule is read.
+is_read : (file text : List ℕ) (i : ℕ) (r : Result Table Fault) → i < rule_count file → text_at file i ≡ text → ∥ TextsRead file ∥₁ → Answer 6 text r → IsOk r
+is_read file text i (Ok t) below same read answer = refl
+is_read file text i (Err e) below same read refused =
+    absurd (∥∥₁_elim read (λ a b. absurd a) (λ reads. never file text i e below same reads refused))
+
+pub unwrap-requires : goal.unwrap-requires
+unwrap-requires c =
     let file = c.args.self.now.file.bytes.now in
     let at = listed_at (rule_count file) (text_at file) _ c.in_ok-text.text.now (sym c.in_ok-text.ensures) in
-    ∥∥₁_elim c.args.self.now.read (λ a b. absurd a)
-    (λ reads. never file c.in_ok-text.text.now _ c.in-Err.field-0 at.0 at.1 reads c.in-Err.ensures.answer)
+    is_read file c.in_ok-text.text.now _ c.read_rule.result at.0 at.1 c.args.self.now.read c.read_rule.ensures.answer

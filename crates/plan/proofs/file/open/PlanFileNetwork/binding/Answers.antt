@@ -31,7 +31,7 @@ returns c =
     let file = c.args.self.now.file.bytes.now in
     let are = c.args.self.now.file.bindings_are in
     let places = c.args.self.now.file.places_are in
-    let is = bound file c.args.number c.u16_at.result c.u16_at-2.result c.u64_at.result c.rules_byte-byte.result
+    let is = bound file c.args.number c.u16_at.result c.u16_at-2.result c.u64_at.result c.binding_byte-byte.result
     (omega arith) c.u16_at.ensures c.u16_at-2.ensures c.u64_at.ensures in
     let at : slice_get (listed (binding_count file) (binding_at file)) c.args.number ≡ Some (record { from = c.u16_at.result; to = c.u16_at-2.result; set = record { 0 = c.u64_at.result } }) =
     nth_listed (binding_count file) (binding_at file) c.args.number (omega arith) ∙ ap Some is in

@@ -1,5 +1,4 @@
-use Rattle.std.proofs.Common.{◌≡◌, ℕ, ◌+◌, List, take, drop, Ok, Err, ap, ◌∙◌, subst, arith, below_more}
-use Rattle.rule_text.specs.Reading.{Reading}
+use Rattle.std.proofs.Common.{◌≡◌, ℕ, ◌+◌, List, take, drop, ap, ◌∙◌, subst, arith, below_more}
 use Rattle.plan.specs.Numbers.{field}
 use Rattle.plan.specs.Contents.{rule_byte, text_at}
 use Rattle.plan.specs.Reading.{IsRuleText}
@@ -36,24 +35,12 @@ text_is file text byte i at is = is ∙ ap (λ (b : ℕ). take (field 2 b file) 
 pub loop-rule-preserved : goal.loop-rule-preserved
 loop-rule-preserved c =
     let file = c.args.self.now.bytes.now in
-    let answer = c.in_default.ensures.answer in
     let same = text_is file c.text_of-text.result.now c.loop-rule.byte c.loop-rule.rule c.loop-rule.invariant.at c.text_of-text.ensures.text in
     record {
       at = rule_byte_next file c.loop-rule.rule c.loop-rule.byte _ c.loop-rule.invariant.at c.text_of-text.ensures.long;
       read = below_more (λ (j : ℕ). IsRuleText (text_at file j)) c.loop-rule.rule c.loop-rule.invariant.read
-          (answer.0, subst (λ (t : List ℕ). Reading 6 t (Ok answer.0)) same answer.1);
+          (subst IsRuleText same c.in_ok-check_text.ensures);
     }
-
-pub returns-in-Err : goal.returns-in-Err
-returns-in-Err c =
-    let file = c.args.self.now.bytes.now in
-    let are = c.args.self.now.rules_are in
-    let same = text_is file c.text_of-text.result.now c.loop-rule.byte c.loop-rule.rule c.loop-rule.invariant.at c.text_of-text.ensures.text in (
-      c.args.self.now.shaped,
-      omega arith,
-      c.loop-rule.invariant.read,
-      subst (λ (t : List ℕ). Reading 6 t (Err c.in-Err.fault)) same c.in-Err.ensures.answer,
-    )
 
 pub returns : goal.returns
 returns c = let are = c.args.self.now.rules_are in λ i below. c.loop-rule.invariant.read i (omega arith)

@@ -1,7 +1,7 @@
 use Rattle.std.proofs.Common.{arith, length-append}
 use Rattle.report.specs.Lines.{breaks_line}
 use Rattle.report.proofs.Adding.{adds_then}
-use Rattle.report.proofs.lines.add_breaks.Goals as goal
+use Rattle.report.proofs.outcome.Report.add_breaks.Goals as goal
 
 pub returns : goal.returns
 unfolding breaks_line

@@ -1,7 +1,7 @@
 use Rattle.std.proofs.Common.{decimal, ap, arith, length-append}
 use Rattle.report.specs.Lines.{refused_line}
 use Rattle.report.proofs.Adding.{adds_then, adds_same}
-use Rattle.report.proofs.lines.add_refusal.Goals as goal
+use Rattle.report.proofs.outcome.Report.add_refusal.Goals as goal
 
 pub returns : goal.returns
 unfolding refused_line

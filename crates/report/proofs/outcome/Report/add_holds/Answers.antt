@@ -1,7 +1,7 @@
 use Rattle.std.proofs.Common.{arith, length-append}
 use Rattle.report.specs.Lines.{holds_line}
 use Rattle.report.proofs.Adding.{adds_then}
-use Rattle.report.proofs.lines.add_holds.Goals as goal
+use Rattle.report.proofs.outcome.Report.add_holds.Goals as goal
 
 pub returns : goal.returns
 unfolding holds_line
