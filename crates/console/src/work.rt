@@ -5,14 +5,12 @@ use conditions::word::Word;
 use judging::route::route;
 use judging::shown::{RouteStep, Shown};
 use plan::file::PlanFile;
+use routing::network::MOST_PLACES;
 use routing::refusal::Refusal;
 use std::alloc::{AllocError, Global};
 use tables::table::MOST_ROWS;
 use verdicts::entries::judge_entries;
 use verdicts::verdict::Judgement;
-
-// The most places of a plan.
-const MOST_PLACES: usize = 256;
 
 // A set for each row and place, two for each place, and one step more than places.
 const MAIN_ROOM: usize = MOST_ROWS * MOST_PLACES;

@@ -9,13 +9,13 @@ use rule_text::fault::Fault;
 #[derive(Clone, Copy, Debug, PartialEq, Eq)]
 pub enum FileFaultKind {
     // A contents entry has another kind or start than it should.
-    BadContents,
+    BadContents = 6,
     // The file is cut, or too long.
-    WrongLength,
+    WrongLength = 7,
     // A binding end is not a place.
-    NoPlace,
+    NoPlace = 8,
     // A count or a text's length is over its limit.
-    OverLimit,
+    OverLimit = 9,
 }
 
 // A fault of the file outside the texts, with the byte of the first wrong field, or the file's length where that is wrong.
@@ -46,12 +46,7 @@ impl FileFault {
     pub fn number(&self) -> u8
         ensures { result ≡ file_fault_number self.now.kind }
     {
-        match self.kind {
-            FileFaultKind::BadContents => 6,
-            FileFaultKind::WrongLength => 7,
-            FileFaultKind::NoPlace => 8,
-            FileFaultKind::OverLimit => 9,
-        }
+        self.kind as u8
     }
 }
 

@@ -46,7 +46,8 @@ impl Report {
 
     // The bytes to print.
     pub fn text(&self) -> &[u8]
-        ensures { result.now ≡ report_text self.now }
+        ensures text { result.now ≡ report_text self.now }
+        ensures fits { length result.now ≤ 512 }
     {
         self.bytes.as_slice()
     }
