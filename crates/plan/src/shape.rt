@@ -21,9 +21,10 @@ ghost use Rattle.plan.specs.Shape.{
 use crate::fault::{FileFault, FileFaultKind};
 use crate::fields::{u16_at, u32_at};
 use crate::layout::{
-    BINDING_BYTES, BINDING_COUNT, BINDINGS, FIRST_BODY, MOST_BINDINGS, MOST_PLACES, MOST_RULES,
-    MOST_TEXT_BYTES, PLACE_BYTES, PLACE_COUNT, PLACES, RULE_COUNT, RULES,
+    BINDING_BYTES, BINDING_COUNT, BINDINGS, FIRST_BODY, MOST_RULES, MOST_TEXT_BYTES, PLACE_BYTES,
+    PLACE_COUNT, PLACES, RULE_COUNT, RULES,
 };
+use routing::network::{MOST_BINDINGS, MOST_PLACES};
 
 // The fault at the byte, where the test does not hold.
 pub(crate) fn check(holds: bool, kind: FileFaultKind, byte: usize) -> Result<(), FileFault>
