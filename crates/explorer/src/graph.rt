@@ -42,7 +42,7 @@ impl Graph {
             conditions,
             places,
             everywhere: PositionSet::of(heap, size, |_| true)?,
-            nowhere: PositionSet::new(heap),
+            nowhere: PositionSet::of(heap, size, |_| false)?,
         };
         graph.add_steps(net);
         Ok(graph)

@@ -1,7 +1,8 @@
 // The explorer: a second judge, explicit over the positions of a network, one by one. The program `trials` compares
 // judging with it.
 //
-// Of the crates that are tried it uses only the network trait, which gives the steps, and the rows.
+// Of the crates that are tried it uses only the traits of networks and of condition sets, which give the steps, and the
+// operations of rows.
 #![tactic(auto)]
 
 pub mod always;

@@ -2,19 +2,12 @@
 use std::alloc::{AllocError, Global};
 
 // A set of positions by their numbers: a truth value for each.
-#[derive(PartialEq, Eq, Drop)]
+#[derive(Clone, PartialEq, Eq, Drop)]
 pub struct PositionSet {
     members: Vec<bool>,
 }
 
 impl PositionSet {
-    // The set of no positions, which has room for none.
-    pub fn new(heap: Global) -> PositionSet {
-        PositionSet {
-            members: Vec::new(heap),
-        }
-    }
-
     // The positions below `size` that pass a test.
     pub fn of<F: Fn(usize) -> bool>(
         heap: Global,

@@ -18,7 +18,7 @@ pub fn settle_rounds<F: Fn(usize, &PositionSet) -> bool>(
 ) -> Result<Settled, AllocError>
     requires { F.IsAlwaysCallable step }
 {
-    let mut set = graph.positions_where(|at| start.contains(at))?;
+    let mut set = start.clone()?;
     for rounds in 0..graph.size() {
         let next = graph.positions_where(|at| step(at, &set))?;
         if next == set {

@@ -18,81 +18,92 @@ pub struct Found {
     pub agrees: bool,
 }
 
-// The positions of an earlier row.
-pub fn operand<'a>(graph: &'a Graph, rows: &'a [Found], number: u8) -> &'a PositionSet {
-    rows.get(usize::from(number))
-        .map_or(graph.nowhere(), |row| &row.held)
+// The rows of a table over the positions of a graph, as many as are worked.
+#[derive(Drop)]
+pub struct Rows<'a> {
+    pub graph: &'a Graph,
+    pub found: Vec<Found>,
 }
 
-// The positions where a row holds, from the rows before it.
-fn explore(graph: &Graph, rows: &[Found], operation: Operation) -> Result<PositionSet, AllocError> {
-    let of = |number: u8| operand(graph, rows, number);
-    match operation {
-        Operation::Yes => graph.positions_where(|_| true),
-        Operation::Mark(k) => graph.positions_where(|at| graph.has_mark(at, k)),
-        Operation::Condition(k) => graph.positions_where(|at| graph.has_condition(at, k)),
-        Operation::Not(p) => graph.complement(of(p)),
-        Operation::And(p, q) => {
-            graph.positions_where(|at| of(p).contains(at) && of(q).contains(at))
-        }
-        Operation::Or(p, q) => {
-            graph.positions_where(|at| of(p).contains(at) || of(q).contains(at))
-        }
-        Operation::Next(p) => graph.positions_where(|at| graph.leads_into(at, of(p))),
-        Operation::Until(p, q) => holds_until(graph, of(p), of(q)),
-        Operation::Always(p) => holds_always(graph, of(p)),
-    }
-}
-
-// The rounds of a row from T(0); absent where it has none.
-//
-// A round of until adds the positions with p that have a step into the set; one of always takes away the positions
-// that have steps but none into it.
-fn settle(
-    graph: &Graph,
-    rows: &[Found],
-    operation: Operation,
-) -> Result<Option<Settled>, AllocError> {
-    let of = |number: u8| operand(graph, rows, number);
-    let settled = match operation {
-        Operation::Until(p, q) => settle_rounds(
+impl<'a> Rows<'a> {
+    // Works every row of a table.
+    pub fn of(graph: &'a Graph, table: &[Operation]) -> Result<Rows<'a>, AllocError> {
+        let mut rows = Rows {
             graph,
-            of(q),
-            |at, set| set.contains(at) || (of(p).contains(at) && graph.leads_into(at, set)),
-        )?,
-        Operation::Always(p) => settle_rounds(
-            graph,
-            of(p),
-            |at, set| set.contains(at) && (graph.leads_into(at, set) || graph.rests(at)),
-        )?,
-        _ => return Ok(None),
-    };
-    Ok(Some(settled))
-}
-
-// Works a row, from the rows before it.
-fn work_row(graph: &Graph, rows: &[Found], operation: Operation) -> Result<Found, AllocError> {
-    let held = explore(graph, rows, operation)?;
-    let (rounds, agrees) = match settle(graph, rows, operation)? {
-        Some(settled) => (settled.rounds, settled.set == held),
-        None => (0, true),
-    };
-    Ok(Found {
-        operation,
-        held,
-        rounds,
-        agrees,
-    })
-}
-
-// Works every row of a table.
-pub fn work_rows(graph: &Graph, table: &[Operation]) -> Result<Vec<Found>, AllocError> {
-    let mut rows = Vec::new(graph.heap());
-    for operation in table {
-        let found = work_row(graph, &rows, *operation)?;
-        rows.push(found)?;
+            found: Vec::new(graph.heap()),
+        };
+        for operation in table {
+            let found = rows.work(*operation)?;
+            rows.found.push(found)?;
+        }
+        Ok(rows)
     }
-    Ok(rows)
+
+    // The positions where a row holds.
+    pub fn operand(&self, number: u8) -> &PositionSet {
+        self.found
+            .get(usize::from(number))
+            .map_or(self.graph.nowhere(), |row| &row.held)
+    }
+
+    // The positions where the next row holds.
+    fn explore(&self, operation: Operation) -> Result<PositionSet, AllocError> {
+        let graph = self.graph;
+        let of = |number: u8| self.operand(number);
+        match operation {
+            Operation::Yes => graph.positions_where(|_| true),
+            Operation::Mark(k) => graph.positions_where(|at| graph.has_mark(at, k)),
+            Operation::Condition(k) => graph.positions_where(|at| graph.has_condition(at, k)),
+            Operation::Not(p) => graph.complement(of(p)),
+            Operation::And(p, q) => {
+                graph.positions_where(|at| of(p).contains(at) && of(q).contains(at))
+            }
+            Operation::Or(p, q) => {
+                graph.positions_where(|at| of(p).contains(at) || of(q).contains(at))
+            }
+            Operation::Next(p) => graph.positions_where(|at| graph.leads_into(at, of(p))),
+            Operation::Until(p, q) => holds_until(graph, of(p), of(q)),
+            Operation::Always(p) => holds_always(graph, of(p)),
+        }
+    }
+
+    // The rounds of the next row from T(0); absent where it has none.
+    //
+    // A round of until adds the positions with p that have a step into the set; one of always takes away the positions
+    // that have steps but none into it.
+    fn settle(&self, operation: Operation) -> Result<Option<Settled>, AllocError> {
+        let graph = self.graph;
+        let of = |number: u8| self.operand(number);
+        let settled = match operation {
+            Operation::Until(p, q) => settle_rounds(
+                graph,
+                of(q),
+                |at, set| set.contains(at) || (of(p).contains(at) && graph.leads_into(at, set)),
+            )?,
+            Operation::Always(p) => settle_rounds(
+                graph,
+                of(p),
+                |at, set| set.contains(at) && (graph.leads_into(at, set) || graph.rests(at)),
+            )?,
+            _ => return Ok(None),
+        };
+        Ok(Some(settled))
+    }
+
+    // Works the next row, from those before it.
+    fn work(&self, operation: Operation) -> Result<Found, AllocError> {
+        let held = self.explore(operation)?;
+        let (rounds, agrees) = match self.settle(operation)? {
+            Some(settled) => (settled.rounds, settled.set == held),
+            None => (0, true),
+        };
+        Ok(Found {
+            operation,
+            held,
+            rounds,
+            agrees,
+        })
+    }
 }
 
 // The least position at an entry where the set fails; absent where it holds at every entry.

@@ -3,7 +3,7 @@ use crate::tally::{Seen, Tally};
 use conditions::set::ConditionSet;
 use explorer::graph::Graph;
 use explorer::positions::PositionSet;
-use explorer::rows::{Found, failing_entry};
+use explorer::rows::{Rows, failing_entry};
 use verdicts::verdict::Verdict;
 
 // At how many positions the sets that judging wrote for a row, one for each place, differ from those where the row holds.
@@ -34,8 +34,9 @@ fn count_positions(graph: &Graph, held: &PositionSet, tally: &mut Tally) {
 
 // Compares every row at every position with the main list that judging wrote, and what lies behind the table's part of it,
 // which judging leaves as it was: all settings.
-pub fn compare_main<S: ConditionSet>(graph: &Graph, rows: &[Found], main: &[S], tally: &mut Tally) {
-    for (row, found) in rows.iter().enumerate() {
+pub fn compare_main<S: ConditionSet>(rows: &Rows, main: &[S], tally: &mut Tally) {
+    let graph = rows.graph;
+    for (row, found) in rows.found.iter().enumerate() {
         tally.add(
             Seen::WrongPositions,
             count_wrong(graph, &found.held, main, row),
@@ -43,7 +44,9 @@ pub fn compare_main<S: ConditionSet>(graph: &Graph, rows: &[Found], main: &[S], 
         count_positions(graph, &found.held, tally);
     }
     let all = S::all();
-    let rest = main.iter().skip(rows.len().saturating_mul(graph.places()));
+    let rest = main
+        .iter()
+        .skip(rows.found.len().saturating_mul(graph.places()));
     tally.add(
         Seen::WrongRest,
         rest.filter(|set| !set.same_members(&all)).count(),
@@ -51,20 +54,23 @@ pub fn compare_main<S: ConditionSet>(graph: &Graph, rows: &[Found], main: &[S], 
 }
 
 // Compares the rounds that judging answered with the sum over the rows.
-pub fn compare_rounds(rows: &[Found], rounds: usize, tally: &mut Tally) {
+pub fn compare_rounds(rows: &Rows, rounds: usize, tally: &mut Tally) {
     let sum = rows
+        .found
         .iter()
         .fold(0usize, |sum, row| sum.saturating_add(row.rounds));
     tally.add(
         Seen::WrongRounds,
-        rows.iter().filter(|row| !row.agrees).count(),
+        rows.found.iter().filter(|row| !row.agrees).count(),
     );
     tally.add_if(Seen::WrongRounds, sum != rounds);
 }
 
 // Compares the verdict with the one on the last row at the entries.
-pub fn compare_verdict(graph: &Graph, rows: &[Found], verdict: Verdict, tally: &mut Tally) {
+pub fn compare_verdict(rows: &Rows, verdict: Verdict, tally: &mut Tally) {
+    let graph = rows.graph;
     let failing = rows
+        .found
         .last()
         .and_then(|last| failing_entry(graph, &last.held));
     let expected = failing.map_or(

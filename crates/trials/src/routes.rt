@@ -4,7 +4,7 @@ use crate::tally::{Seen, Tally};
 use conditions::set::ConditionSet;
 use explorer::graph::Graph;
 use explorer::positions::PositionSet;
-use explorer::rows::{Found, operand};
+use explorer::rows::{Found, Rows};
 use explorer::until::hops_to;
 use judging::route::route;
 use judging::shown::{Ending, RouteStep, Shown};
@@ -66,8 +66,7 @@ fn has_each(graph: &Graph, set: &PositionSet, way: &[RouteStep]) -> bool {
 // A row that a route is asked for, at a position, by the explorer.
 #[derive(Drop)]
 struct Query<'a> {
-    graph: &'a Graph,
-    rows: &'a [Found],
+    rows: &'a Rows<'a>,
     found: &'a Found,
     at: RouteStep,
     holds: bool,
@@ -77,36 +76,21 @@ struct Query<'a> {
 
 impl<'a> Query<'a> {
     // What the explorer says of a row at a position.
-    fn new(
-        graph: &'a Graph,
-        rows: &'a [Found],
-        found: &'a Found,
-        at: RouteStep,
-    ) -> Result<Query<'a>, AllocError> {
-        let from = number_of(graph, &at);
+    fn new(rows: &'a Rows<'a>, found: &'a Found, at: RouteStep) -> Result<Query<'a>, AllocError> {
+        let from = number_of(rows.graph, &at);
         let hops = match found.operation {
             Operation::Until(p, q) => {
-                hops_to(
-                    graph,
-                    operand(graph, rows, p),
-                    operand(graph, rows, q),
-                    from,
-                )?
+                hops_to(rows.graph, rows.operand(p), rows.operand(q), from)?
             }
             _ => None,
         };
         Ok(Query {
-            graph,
             rows,
             found,
             at,
             holds: found.held.contains(from),
             hops,
         })
-    }
-
-    fn operand(&self, number: u8) -> &PositionSet {
-        operand(self.graph, self.rows, number)
     }
 
     // Compares an until row with the hops of the walk forwards: there are some where the row holds, and no more
@@ -129,26 +113,24 @@ impl<'a> Query<'a> {
         let Some((last, before)) = way.split_last() else {
             return false;
         };
-        let graph = self.graph;
+        let graph = self.rows.graph;
+        let of = |number: u8| self.rows.operand(number);
         let at = number_of(graph, last);
         match (self.found.operation, ending) {
-            (Operation::Next(p), Ending::Reaches) => {
-                before.len() == 1 && self.operand(p).contains(at)
-            }
+            (Operation::Next(p), Ending::Reaches) => { before.len() == 1 && of(p).contains(at) }
             (Operation::Next(p), Ending::Returns(0)) => {
-                before.is_empty() && self.operand(p).contains(at) && joined(graph, last, last)
+                before.is_empty() && of(p).contains(at) && joined(graph, last, last)
             }
             (Operation::Until(p, q), Ending::Reaches) => {
-                self.operand(q).contains(at)
-                    && has_each(graph, self.operand(p), before)
+                of(q).contains(at)
+                    && has_each(graph, of(p), before)
                     && self.hops == Some(before.len())
             }
             (Operation::Always(p), Ending::Rests) => {
-                has_each(graph, self.operand(p), way) && graph.rests(at)
+                has_each(graph, of(p), way) && graph.rests(at)
             }
             (Operation::Always(p), Ending::Returns(i)) => {
-                has_each(graph, self.operand(p), way)
-                    && way.get(i).is_some_and(|to| joined(graph, last, to))
+                has_each(graph, of(p), way) && way.get(i).is_some_and(|to| joined(graph, last, to))
             }
             _ => false,
         }
@@ -175,7 +157,7 @@ impl<'a> Query<'a> {
     // Compares a shown route. The steps list has no room for more than places + 1 positions.
     fn compare_shown(&self, shown: Shown, steps: &[RouteStep], tally: &mut Tally) {
         let right = steps.get(..shown.count).is_some_and(|way| {
-            is_trail(self.graph, self.at, way) && self.is_shown_by(way, shown.ending)
+            is_trail(self.rows.graph, self.at, way) && self.is_shown_by(way, shown.ending)
         });
         tally.add_if(Seen::WrongRoutes, !right);
         self.count_route(shown, tally);
@@ -221,13 +203,13 @@ fn shows_routes(operation: Operation) -> bool {
 // Asks for routes of each row that says next, until or always, at some settings of each place, and compares the answers.
 pub fn compare_routes<N: Network>(
     net: &N,
-    graph: &Graph,
     table: &[Row],
-    rows: &[Found],
+    rows: &Rows,
     space: &mut Space<N::Set>,
     tally: &mut Tally,
 ) -> Result<(), AllocError> {
-    for (number, found) in rows.iter().enumerate() {
+    let graph = rows.graph;
+    for (number, found) in rows.found.iter().enumerate() {
         if !shows_routes(found.operation) {
             continue;
         }
@@ -243,7 +225,7 @@ pub fn compare_routes<N: Network>(
                 &mut space.spare,
                 &mut steps,
             );
-            let query = Query::new(graph, rows, found, at)?;
+            let query = Query::new(&*rows, found, at)?;
             if matches!(found.operation, Operation::Until(_, _)) {
                 query.compare_hops(tally);
             }

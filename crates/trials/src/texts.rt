@@ -72,7 +72,7 @@ pub fn try_text<N: Network>(
     tally: &mut Tally,
 ) -> Result<(), AllocError> {
     let done = work_forms(graph, forms)?;
-    let (Some(rule), Some(held)) = (forms.last(), done.last()) else {
+    let Some((rule, held)) = forms.iter().zip(&done).last() else {
         return Ok(());
     };
     count_form(rule.form, tally);

@@ -6,7 +6,7 @@ use crate::space::Space;
 use crate::tally::{Seen, Tally};
 use crate::texts::try_text;
 use explorer::graph::Graph;
-use explorer::rows::{Found, work_rows};
+use explorer::rows::{Found, Rows};
 use generator::network::draw_network;
 use generator::random::Random;
 use generator::sets::Draw;
@@ -59,7 +59,7 @@ fn try_table<N: Network>(
     operations: &[Operation],
     tally: &mut Tally,
 ) -> Result<(), AllocError> {
-    let found = work_rows(graph, operations)?;
+    let rows = Rows::of(graph, operations)?;
     let table: Vec<Row> = operations
         .iter()
         .map(|op| Row::from(*op))
@@ -67,20 +67,20 @@ fn try_table<N: Network>(
     let mut space = Space::new(graph.heap(), MAIN)?;
     match judge(net, &table, &mut space.main, &mut space.spare) {
         Ok(rounds) => {
-            compare_main(graph, &found, &space.main, tally);
-            compare_rounds(&found, rounds, tally);
+            compare_main(&rows, &space.main, tally);
+            compare_rounds(&rows, rounds, tally);
         }
         Err(_) => tally.add(Seen::Refusals, 1),
     }
     match judge_entries(net, &table, &mut space.main, &mut space.spare) {
         Ok(judgement) => {
-            compare_rounds(&found, judgement.rounds, tally);
-            compare_verdict(graph, &found, judgement.verdict, tally);
+            compare_rounds(&rows, judgement.rounds, tally);
+            compare_verdict(&rows, judgement.verdict, tally);
         }
         Err(_) => tally.add(Seen::Refusals, 1),
     }
-    count_rows(&found, tally);
-    compare_routes(net, graph, &table, &found, &mut space, tally)
+    count_rows(&rows.found, tally);
+    compare_routes(net, &table, &rows, &mut space, tally)
 }
 
 // What is drawn, and the counts of what was tried and of what differed.
