@@ -9,7 +9,7 @@ use Rattle.routing.specs.Routes.{SomeNext}
 use Rattle.routing.specs.Bindings.{Fits}
 use Rattle.rounds.specs.Rounds.{Decided}
 use Rattle.rounds.specs.Truth.{into, grown}
-use Rattle.rounds.proofs.Truth.{into_decides}
+use Rattle.rounds.proofs.Truth.{into_decides, is_decides}
 use Rattle.judging.specs.declared.shown.Ending.TheVariants.{Reaches}
 use Rattle.judging.specs.Chosen.{least_from, pos, at_place, entering, or_next, next_in, goes_on, counted, walk_until, chosen_until}
 use Rattle.judging.specs.declared.notes.Note.{Note}
@@ -52,7 +52,7 @@ module _ (N : Net) (p q : Pos → Bool) where
   steps_in : (i : ℕ) (x : Pos) → p x ≡ true → SomeNext N (λ y. grown N p q i y ≡ true) x → grown N p q (suc i) x ≡ true
   unfolding grown
   steps_in i x has s =
-      or_right (grown N p q i x) _ (and_from (p x) _ has ((into_decides N (grown N p q i) (λ y. grown N p q i y ≡ true) (λ y w. (λ e. e, λ e. e)) x).1 s))
+      or_right (grown N p q i x) _ (and_from (p x) _ has ((into_decides N (grown N p q i) (λ y. grown N p q i y ≡ true) (is_decides N (grown N p q i)) x).1 s))
 
   -- A place that was entered stays entered.
   stays_entered : (i k t : ℕ) (y : Pos) → i ≤ k → entering N (grown N p q i) t ≡ Some y → is_some (entering N (grown N p q k) t) ≡ true

@@ -1,5 +1,5 @@
 -- The operands of a row: where they stand in the main list, and what a row makes of them.
-use Rattle.std.proofs.Common.{◌≡◌, ℕ, suc, ◌+◌, ◌-◌, ◌*◌, ◌<◌, ◌≤◌, Bool, true, false, cond, List, length, take, drop, IfSome, Some, None, Option, sym, refl, subst, mul-le-mul_right, suc-mul, arith, length-drop, length-take}
+use Rattle.std.proofs.Common.{◌≡◌, ℕ, suc, ◌+◌, ◌-◌, ◌*◌, ◌<◌, ◌≤◌, Bool, true, false, cond, List, length, take, drop, IfSome, Some, None, Option, sym, refl, subst, mul-le-mul_right, suc-mul, arith}
 use borrow.Rule.Slice.PartMut.{put_mid}
 use Rattle.std.proofs.lemmas.Slice.{take-put_mid_below, drop-put_mid, between-put_mid}
 use Rattle.std.proofs.lemmas.Bool.{false≢true}
@@ -15,10 +15,6 @@ use Rattle.judging.specs.Shapes.{Shape, Rounds, first_is_row, second_is_row}
 -- The part of an earlier row ends where that of a later one begins, or before.
 pub part_before : (k row n : ℕ) → k < row → k * n + n ≤ row * n
 part_before k row n l = let s = suc-mul k n in let m = mul-le-mul_right {m = suc k} {n = row} n l in omega arith
-
--- The part of a row has as many sets as there are places.
-pub part_long : {S : Type 0} (n r : ℕ) (main : List S) → r * n + n ≤ length main → length (row_part n r main) ≡ n
-part_long n r main l = simp (length-take, length-drop) (omega arith)
 
 -- An operand that is a row has its part within the main list.
 pub operand_within : (o : Option ℕ) (t : Bool) (k row n len : ℕ) → o ≡ cond t (Some k) None → (t ≡ true → k < row) → row * n + n ≤ len

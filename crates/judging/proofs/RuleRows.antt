@@ -1,7 +1,7 @@
 -- The rule of a row, from the rules of the rows before it.
-use Rattle.std.proofs.Common.{◌≡◌, ℕ, zero, suc, ◌<◌, Bool, true, ltb, leb, ◌⊎◌, List, [], ◌∷◌, ◌++◌, length, get_or, sym, refl, ap, ◌∙◌, inl, inr, arith, length-append}
+use Rattle.std.proofs.Common.{◌≡◌, ℕ, zero, suc, ◌<◌, Bool, true, ltb, ◌⊎◌, List, [], ◌∷◌, ◌++◌, length, get_or, sym, refl, ap, ◌∙◌, inl, inr, arith, length-append}
 use Rattle.std.proofs.lemmas.List.{get_or_append_left, get_or_push}
-use Rattle.std.proofs.lemmas.Bool.{and_parts, ltb-true, leb-true, cases_eq, false≢true}
+use Rattle.std.proofs.lemmas.Bool.{and_parts, ltb-true, cases_eq, false≢true}
 use Rattle.routing.specs.Net.{Pos, Net}
 use Rattle.routing.specs.Rules.{Rule, truth, non, both, either, ex, eu, eg, Means}
 use Rattle.rounds.specs.Rounds.{Decided}
@@ -10,7 +10,7 @@ use Rattle.tables.specs.declared.row.Operation.{Operation}
 use Rattle.tables.specs.declared.row.Operation.TheVariants.{Yes, Mark, Condition, Not, And, Or, Next, Until, Always}
 use Rattle.tables.specs.Tables.{row_fits, coded, operation_rules, row_rule, no_row, rules_before, rule_at}
 use Rattle.judging.specs.Judged.{RoundsOf}
-use Rattle.judging.specs.Shapes.{Shape, Rounds, Named, first_is_row, second_is_row}
+use Rattle.judging.specs.Shapes.{Shape, Rounds, first_is_row, second_is_row}
 
 length_rules : (rows : List Row) (r : ℕ) → length (rules_before rows r) ≡ r
 unfolding rules_before
@@ -61,18 +61,6 @@ rounds_of N p q (Or _ _) i h = h
 rounds_of N p q (Next _) i h = h
 rounds_of N p q (Until _ _) i h = h
 rounds_of N p q (Always _) i h = h
-
--- A row that fits, by its operation.
-pub fits_named : (K i : ℕ) (op : Operation) → row_fits K i (coded op) ≡ true → Named K op
-fits_named K i Yes h = tt
-fits_named K i (Mark k) h = let l = leb-true k 31 (and_parts (leb k 31) true h).0 in omega arith
-fits_named K i (Condition k) h = ltb-true k K (and_parts (ltb k K) true h).0
-fits_named K i (Not p) h = tt
-fits_named K i (And p q) h = tt
-fits_named K i (Or p q) h = tt
-fits_named K i (Next p) h = tt
-fits_named K i (Until p q) h = tt
-fits_named K i (Always p) h = tt
 
 pub fits_first : (K i : ℕ) (op : Operation) → row_fits K i (coded op) ≡ true → first_is_row op ≡ true → (coded op).first < i
 fits_first K i Yes h e = absurd (false≢true e)

@@ -1,7 +1,7 @@
 -- A walk within a set, written to a list.
-use Rattle.std.proofs.Common.{◌≡◌, ℕ, zero, suc, ◌+◌, ◌<◌, ◌≤◌, Bool, List, [], ◌∷◌, ◌++◌, map, length, take, drop, set, Some, None, Option, sym, refl, ap, ◌∙◌, add-one, arith, length-take}
+use Rattle.std.proofs.Common.{◌≡◌, ℕ, zero, suc, ◌+◌, ◌<◌, ◌≤◌, Bool, List, [], ◌∷◌, ◌++◌, map, length, take, drop, set, Some, None, Option, sym, refl, ap, ◌∙◌, add-one, arith, length-set, length-take}
 use Rattle.std.specs.Option.{MatchOption}
-use Rattle.std.proofs.lemmas.List.{length-map, map-append, drop-drop}
+use Rattle.std.proofs.lemmas.List.{length-map, map-append, drop-drop, drop-set-lt}
 use Rattle.routing.specs.Net.{Net, Pos}
 use Rattle.judging.specs.declared.shown.Ending.{Ending}
 use Rattle.judging.specs.declared.shown.Ending.TheVariants.{Rests, Returns}
@@ -10,7 +10,7 @@ use Rattle.judging.specs.Chosen.{Chosen, index_of, returns_or, rests_or, next_in
 use Rattle.judging.specs.Steps.{as_pos, as_step, as_steps, as_next, Written}
 
 -- One record more at the front.
-pub take_set : {X : Type 0} (xs : List X) (k : ℕ) (v : X) → k < length xs → take (k + 1) (set xs k v) ≡ take k xs ++ (v ∷ [])
+take_set : {X : Type 0} (xs : List X) (k : ℕ) (v : X) → k < length xs → take (k + 1) (set xs k v) ≡ take k xs ++ (v ∷ [])
 take_set xs k v l = rw add-one (go xs k l)
   where
     go : (ys : List _) (j : ℕ) → j < length ys → take (suc j) (set ys j v) ≡ take j ys ++ (v ∷ [])
@@ -19,7 +19,7 @@ take_set xs k v l = rw add-one (go xs k l)
     go (y ∷ ys) (suc j) l = ap (λ (zs : List _). y ∷ zs) (go ys j (omega arith))
 
 -- Lists that agree from k on agree from k + 1 on.
-pub drop_more : {X : Type 0} (xs ys : List X) (k : ℕ) → drop k xs ≡ drop k ys → drop (k + 1) xs ≡ drop (k + 1) ys
+drop_more : {X : Type 0} (xs ys : List X) (k : ℕ) → drop k xs ≡ drop k ys → drop (k + 1) xs ≡ drop (k + 1) ys
 drop_more xs ys k e = sym (drop-drop 1 k xs) ∙ ap (drop 1) e ∙ drop-drop 1 k ys
 
 -- Records are their positions.
@@ -79,6 +79,18 @@ module _ (N : Net) (X : Pos → Bool) (seen : List Pos) (x : Pos) where
 pub seen_more : (steps : List RouteStep) (k : ℕ) (s : RouteStep) → k < length steps
     → map as_pos (take (k + 1) (set steps k s)) ≡ map as_pos (take k steps) ++ (as_pos s ∷ [])
 seen_more steps k s l = ap (map as_pos) (take_set steps k s l) ∙ map-append as_pos (take k steps) (s ∷ [])
+
+-- The rest of the list, with one record more at the front.
+pub rest_more : (steps start : List RouteStep) (k : ℕ) (s : RouteStep) → drop k steps ≡ drop k start → drop (k + 1) (set steps k s) ≡ drop (k + 1) start
+rest_more steps start k s rest = drop-set-lt (k + 1) steps k s (omega arith) ∙ drop_more steps start k rest
+
+-- The route that is chosen, where its last position is written behind k others.
+pub written_last : (c : Chosen) (start steps : List RouteStep) (k : ℕ) (s : RouteStep) (e : Ending) → k < length steps
+    → c ≡ record { positions = map as_pos (take k steps) ++ (as_pos s ∷ []); ending = e } → drop k steps ≡ drop k start
+    → Written c start (set steps k s) (record { count = k + 1; ending = e })
+written_last c start steps k s e inside is rest =
+    written_front c start (set steps k s) (k + 1) e (simp length-set (omega arith))
+    (is ∙ ap (λ (ps : List Pos). record { positions = ps; ending = e }) (sym (seen_more steps k s inside))) (rest_more steps start k s rest)
 
 -- The next position from its record.
 pub next_is : (o : Option Pos) (s : RouteStep) → Some s ≡ as_next o → o ≡ Some (as_pos s)

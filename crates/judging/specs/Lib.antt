@@ -1,9 +1,9 @@
 pub mod Answers
+pub mod Callbacks
 pub mod Chosen
 pub mod Judged
 pub mod Notes
 pub mod Queries
-pub mod Rules
 pub mod Shapes
 pub mod Shown
 pub mod Steps

@@ -1,5 +1,6 @@
 -- When asking for a route is refused.
 use Rattle.std.specs.Prelude.{ℕ, ◌+◌, ◌*◌, Bool, cond, ◌&&◌, List, length, Some, None, Option, nat_le, nat_lt, slice_index_or}
+use Rattle.std.specs.Option.{option_or}
 use Rattle.routing.specs.declared.refusal.Refusal.{Refusal}
 use Rattle.routing.specs.declared.refusal.Refusal.TheVariants.{BadTable, BadQuery, TooShort}
 use Rattle.routing.specs.Net.{Net, Pos, places, settings}
@@ -24,6 +25,4 @@ query_refusal N rows r x = cond (accepted N.conditions rows) (cond (query_fits N
 -- Why it is refused without judging: the table, else the question, else the room.
 abbrev pub route_refusal : Net → List Row → ℕ → Pos → ℕ → ℕ → ℕ → Option Refusal
 route_refusal N rows r x main spare steps =
-    cond (accepted N.conditions rows)
-    (cond (query_fits N rows r x) (cond (route_room N rows main spare steps) None (Some TooShort)) (Some BadQuery))
-    (Some BadTable)
+    option_or (query_refusal N rows r x) (cond (route_room N rows main spare steps) None (Some TooShort))

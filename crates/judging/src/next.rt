@@ -4,7 +4,7 @@ ghost use Rattle.routing.specs.Net.{Pos, places};
 ghost use Rattle.judging.specs.Judged.{covers, PerPlace};
 ghost use Rattle.judging.specs.Chosen.{at_place, entering, next_in};
 ghost use Rattle.judging.specs.Notes.{first_link};
-ghost use Rattle.judging.specs.Rules.{Gives};
+ghost use Rattle.judging.specs.Callbacks.{Gives};
 ghost use Rattle.judging.specs.Steps.{as_next, as_pos};
 
 use crate::shown::RouteStep;

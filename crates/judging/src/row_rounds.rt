@@ -5,7 +5,7 @@ ghost use Rattle.routing.specs.Routes.{SomeNext};
 ghost use Rattle.rounds.specs.Claims.{Is};
 ghost use Rattle.rounds.specs.Rounds.{Grown, Kept, Stable, LeastStable, Decided};
 ghost use Rattle.judging.specs.Judged.{covers, PerPlace};
-ghost use Rattle.judging.specs.Rules.{Makes, Turns};
+ghost use Rattle.judging.specs.Callbacks.{Makes, Turns};
 
 use crate::sets::{combine, fill, is_entered, narrowed, widened};
 use conditions::set::ConditionSet;

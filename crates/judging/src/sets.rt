@@ -2,7 +2,7 @@
 ghost use Rattle.std.specs.Prelude.{◌≡◌, ℕ, ◌+◌, ◌*◌, ◌^◌, ◌<◌, ◌≤◌, Bool, true, not, ◌&&◌, ◌||◌, length, Decides, nat_lt};
 ghost use Rattle.routing.specs.Net.{Pos};
 ghost use Rattle.judging.specs.Judged.{covers, row_part};
-ghost use Rattle.judging.specs.Rules.{Makes};
+ghost use Rattle.judging.specs.Callbacks.{Makes};
 
 use conditions::set::ConditionSet;
 

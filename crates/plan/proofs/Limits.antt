@@ -16,9 +16,6 @@ not_leb n limit = grind (arith, nat_tests)
 pub limit_test : (n limit byte : ℕ) → faulty (not (leb n limit)) OverLimit byte ≡ faulty (ltb limit n) OverLimit byte
 limit_test n limit byte = ap (λ t. faulty t OverLimit byte) (not_leb n limit)
 
-pub many_texts : (start : ℕ) (texts : List (List ℕ)) (f : FileFault) → Some f ≡ faulty (ltb 8 (length texts)) OverLimit 18 → Some f ≡ texts_fault start texts
-many_texts start texts f is = ap (λ o. option_or o (option_or (long_fault start texts) None)) is
-
 pub few_texts : (start : ℕ) (texts : List (List ℕ)) → None ≡ faulty (ltb 8 (length texts)) OverLimit 18 → long_fault start texts ≡ texts_fault start texts
 few_texts start texts is = sym (or_end (long_fault start texts)) ∙ ap (λ o. option_or o (option_or (long_fault start texts) None)) is
 

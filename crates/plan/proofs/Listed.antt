@@ -1,5 +1,5 @@
 -- Lists by their number of elements and what stands at each number.
-use Rattle.std.proofs.Common.{◌≡◌, ℕ, zero, suc, ◌<◌, ◌≤◌, true, ◌&&◌, ltb, List, [], ◌∷◌, length, Some, None, refl, arith}
+use Rattle.std.proofs.Common.{◌≡◌, ℕ, zero, suc, ◌<◌, ◌≤◌, true, ◌&&◌, ltb, Some, None, refl, arith}
 use Rattle.std.specs.List.{slice_get}
 use Rattle.std.proofs.lemmas.Bool.{lt-ltb, and_from}
 use Rattle.routing.specs.declared.binding.Binding.{Binding}
@@ -35,9 +35,3 @@ unfolding listed
 listed_at zero f i x e = let z : ◌≡◌ {A = ℕ} 0 1 = cc in absurd (omega arith)
 listed_at (suc n) f zero x e = let same : f 0 ≡ x = cc in (omega arith, same)
 listed_at (suc n) f (suc i) x e = let rest = listed_at n (λ k. f (suc k)) i x e in let below = rest.0 in (omega arith, rest.1)
-
--- Nothing stands past the end of a list.
-pub past_end : {A : Type 0} (xs : List A) (i : ℕ) → slice_get xs i ≡ None → length xs ≤ i
-past_end [] i e = omega arith
-past_end (x ∷ xs) zero e = let z : ◌≡◌ {A = ℕ} 0 1 = cc in absurd (omega arith)
-past_end (x ∷ xs) (suc i) e = let rest = past_end xs i e in omega arith

@@ -1,5 +1,5 @@
 -- A file with no fault of its shape: what each test says.
-use Rattle.std.proofs.Common.{◌≡◌, ℕ, zero, suc, ◌+◌, ◌-◌, ◌*◌, ◌<◌, ◌≤◌, Bool, not, eqb, ltb, List, Some, None, Option, sym, refl, ap, ◌∙◌, subst, arith}
+use Rattle.std.proofs.Common.{◌≡◌, ℕ, zero, suc, ◌+◌, ◌-◌, ◌<◌, ◌≤◌, Bool, not, eqb, ltb, List, Some, None, Option, sym, refl, ap, ◌∙◌, subst, arith}
 use Rattle.std.specs.Option.{option_or}
 use Rattle.std.proofs.lemmas.Bool.{eq-eqb, eqb-true, le-ltb, ltb-false, not-false}
 use Rattle.plan.specs.declared.fault.FileFault.{FileFault}
@@ -241,16 +241,6 @@ rules_pass total file e =
     let b = or_nones (end_fault total file) None a.1 in
     eqb-true (rule_byte file (rule_count file)) total
     (not-false _ (faulty_none (not (eqb (rule_byte file (rule_count file)) total)) WrongLength total b.0))
-
--- No plan's file is longer than the longest.
-pub rule_byte_below : (total : ℕ) (file : List ℕ) (i n : ℕ) → ((k : ℕ) → k < n → LengthFits total file k) → i ≤ n
-    → rule_byte file i ≤ rules_start (place_count file) (binding_count file) + 202 * i
-unfolding rule_byte
-rule_byte_below total file zero n fits few = omega arith
-rule_byte_below total file (suc i) n fits few =
-    let before = rule_byte_below total file i n fits (omega arith) in
-    let short = (fits i (omega arith)).short in
-    omega arith
 
 -- A later rule begins no earlier.
 pub rule_bytes_up : (file : List ℕ) (i k : ℕ) → rule_byte file i ≤ rule_byte file (k + i)

@@ -1,20 +1,12 @@
 -- The bytes of numbers: how many, how large, and that the numbers' own bytes are these.
-use Rattle.std.proofs.Common.{◌≡◌, ℕ, zero, suc, ◌/◌, ◌%◌, ◌^◌, ◌<◌, [], ◌∷◌, length, refl, ap, mod-lt, lit<}
+use Rattle.std.proofs.Common.{◌≡◌, ℕ, zero, suc, ◌/◌, ◌%◌, [], ◌∷◌, length, refl, ap}
 use native.Mathlib.Nat.{div-div-eq-div-mul}
 use Rattle.plan.specs.Numbers.{bytes_of}
-use Rattle.plan.specs.Reading.{Each}
-use Rattle.plan.proofs.Elements.{each_none, each_cons}
 
 pub length_bytes_of : (w n : ℕ) → length (bytes_of w n) ≡ w
 unfolding bytes_of
 length_bytes_of zero n = refl
 length_bytes_of (suc w) n = ap suc (length_bytes_of w (n / 256))
-
--- Each byte is below 256.
-pub bytes_of_fit : (w n : ℕ) → Each (λ b. b < 2 ^ 8) (bytes_of w n)
-unfolding bytes_of
-bytes_of_fit zero n = each_none (λ b. b < 2 ^ 8)
-bytes_of_fit (suc w) n = each_cons (λ b. b < 2 ^ 8) (n % 256) (bytes_of w (n / 256)) (mod-lt n (lit< tt)) (bytes_of_fit w (n / 256))
 
 -- The bytes of a number of 16, 32 and 64 bits.
 pub bytes_of_2 : (n : ℕ) → bytes_of 2 n ≡ n % 256 ∷ n / 256 % 256 ∷ []

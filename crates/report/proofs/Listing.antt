@@ -1,7 +1,6 @@
 -- The lines of rules, one behind the other.
 use Rattle.std.proofs.Common.{◌≡◌, ℕ, zero, suc, ◌+◌, ◌*◌, ◌<◌, ◌≤◌, List, [], ◌∷◌, ◌++◌, length, take, Some, Option, sym, refl, ap, ◌∙◌, subst, append_assoc, append-nil, add-one, arith, length-append}
 use Rattle.std.specs.List.{slice_get}
-use Rattle.std.proofs.lemmas.List.{take_all}
 use Rattle.routing.specs.Net.{Net}
 use Rattle.rule_text.specs.declared.table.Table.{Table}
 use Rattle.rule_text.specs.Reading.{table_rows}
@@ -51,15 +50,6 @@ printed_more p was n before after t line few here short adds more so_far =
       short = omega (arith, simp length-append at (ap length added.text));
       fault = added.fault ∙ so_far.fault;
     }
-
--- All rules are printed.
-pub printed_all : (p : Plan) (was : Option PlanFault) (n : ℕ) (r : Report) → length p.texts ≤ n → Printed p was n r → RuleLines (plan_net p) 0 p.texts (report_text r)
-printed_all p was n r all printed =
-    subst (λ (texts : List (List ℕ)). RuleLines (plan_net p) 0 texts (report_text r)) (take_all n p.texts all) printed.lines
-
--- No rule is printed yet.
-pub printed_none : (p : Plan) (was : Option PlanFault) (r : Report) → report_text r ≡ [] → r.fault ≡ was → Printed p was 0 r
-printed_none p was r fresh fault = record { lines = fresh; short = omega (arith, ap length fresh); fault = fault }
 
 -- The line of one more rule of the plan is added.
 pub printed_rule : (p : Plan) (was : Option PlanFault) (n : ℕ) (before after : Report) (t : Table) → n < 8 → TableOf p n t

@@ -1,6 +1,5 @@
 -- The report of a file, from what opening the file and adding its lines come to.
-use Rattle.std.proofs.Common.{◌≡◌, ℕ, List, ◌++◌, length, Some, None, Ok, Err, sym, ap, ◌∙◌, subst, inl, inr, append-nil, arith}
-use Rattle.std.proofs.lemmas.List.{nil_from_length}
+use Rattle.std.proofs.Common.{◌≡◌, ℕ, List, Some, None, Ok, Err, ap, ◌∙◌, subst, inl, inr, arith}
 use Rattle.plan.specs.declared.fault.PlanFault.{PlanFault}
 use Rattle.plan.specs.Contents.{plan_net}
 use Rattle.plan.specs.Format.{Plan}
@@ -38,8 +37,3 @@ planned_report file r p read lines fault = record {
         absurd (omega arith),
   );
 }
-
--- Nothing lies behind the front.
-pub front_alone : (front rest : List ℕ) (r : Report) → length rest ≡ 0 → ReportOf front r → ReportOf (front ++ rest) r
-front_alone front rest r none report =
-    subst (λ (file : List ℕ). ReportOf file r) (sym (subst (λ (behind : List ℕ). front ++ behind ≡ front) (sym (nil_from_length rest none)) (append-nil front))) report

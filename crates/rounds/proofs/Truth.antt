@@ -5,9 +5,14 @@ use Rattle.std.proofs.lemmas.Bool.{cases_eq, or_cases, or_left, or_right, false�
 use Rattle.std.proofs.lemmas.Bool.Decides.{Decides-eqb, Decides-ltb, Decides-like, Decides-not, Decides-and, Decides-or}
 use Rattle.routing.specs.Net.{Link, Net, Pos, Rests, places, settings}
 use Rattle.routing.specs.Routes.{SomeNext}
+use Rattle.rounds.specs.Claims.{Is}
 use Rattle.rounds.specs.Rounds.{Grown, Kept, Decided}
 use Rattle.rounds.specs.Truth.{any_below, any_of, reached, leads, into, moves, grown, kept}
 use Rattle.rounds.proofs.Tests.{told, decides_then}
+
+-- A test decides the positions that pass it.
+pub is_decides : (N : Net) (p : Pos → Bool) → Decided N p (Is p)
+is_decides N p x w = (λ e. e, λ e. e)
 
 below_decides : (n : ℕ) (f : ℕ → Bool) (P : ℕ → Type 0) → ((i : ℕ) → i < n → Decides (f i) (P i)) → Decides (any_below n f) ((i : ℕ) × (i < n) × P i)
 unfolding any_below

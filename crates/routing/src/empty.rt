@@ -13,6 +13,13 @@ pub struct Empty<S> {
     set: PhantomData<S>,
 }
 
+// By hand, since the derived one would ask for `S: Default`.
+impl<S> Default for Empty<S> {
+    fn default() -> Empty<S> {
+        Empty { set: PhantomData }
+    }
+}
+
 impl<S: ConditionSet> Network for Empty<S> {
     type Set = S;
 

@@ -2,10 +2,12 @@
 use crate::networks;
 use conditions::word::Word;
 use routing::binding::Binding;
+use routing::empty::Empty;
 use routing::refusal::Refusal;
 use std::process::Abort;
 use std::test::Fail;
 use tables::row::Row;
+use verdicts::entries::judge_entries;
 use verdicts::site::judge_site;
 use verdicts::verdict::Verdict;
 
@@ -43,6 +45,17 @@ fn trial_network_l(rt: HostRuntime) -> Result<(), Fail> {
     check_verdict(&rt, &marks, &records, &table, Verdict::Holds, 3)?;
     let table = networks::EF_M1.map(Row::from);
     check_verdict(&rt, &marks, &records, &table, Verdict::Holds, 3)
+}
+
+// With no places there are no entries, so that each rule holds, at once and with no sets lent.
+#[test]
+fn no_places(rt: HostRuntime) -> Result<(), Fail> {
+    let table = networks::AF_M1.map(Row::from);
+    let net: Empty<Word> = Empty::default();
+    let judgement = judge_entries(&net, &table, &mut [], &mut [])?;
+    assert_eq!(rt; judgement.verdict, Verdict::Holds);
+    assert_eq!(rt; judgement.rounds, 0);
+    Ok(())
 }
 
 // A list that is too short is refused, and nothing is written.

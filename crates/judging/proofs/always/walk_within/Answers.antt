@@ -1,5 +1,4 @@
-use Rattle.std.proofs.Common.{rules, ◌≡◌, ℕ, suc, ◌+◌, ◌-◌, ◌<◌, List, [], map, length, take, drop, set, Option, sym, refl, ap, ◌∙◌, subst, arith, length-set}
-use Rattle.std.proofs.lemmas.List.{drop-set-lt}
+use Rattle.std.proofs.Common.{rules, ◌≡◌, ℕ, suc, ◌+◌, ◌-◌, ◌<◌, List, [], map, length, take, drop, set, Option, sym, ap, ◌∙◌, subst, arith, length-set}
 use Rattle.std.specs.Option.{MatchOption}
 use Rattle.routing.specs.Net.{Net, Pos, places}
 use Rattle.judging.specs.Judged.{covers}
@@ -7,14 +6,8 @@ use Rattle.judging.specs.declared.shown.RouteStep.{RouteStep}
 use Rattle.judging.specs.Chosen.{index_of, walk_always}
 use Rattle.judging.specs.Steps.{as_pos}
 use Rattle.judging.specs.declared.shown.Ending.TheVariants.{Rests, Returns}
-use Rattle.judging.proofs.Walked.{next_is, next_is_none, drop_more, written_front, walk_returns, walk_ends, walk_rests, walk_goes_on, seen_more}
+use Rattle.judging.proofs.Walked.{next_is, next_is_none, rest_more, written_front, written_last, walk_returns, walk_ends, walk_rests, walk_goes_on, seen_more}
 use Rattle.judging.proofs.always.walk_within.Goals as goal
-
-pub loop-count-init : goal.loop-count-init
-loop-count-init g c =
-    let N : Net = g.N.Network.meaning c.args.net.now in
-    let e : places N + 1 ≡ places N + 1 - 0 = omega arith in
-    (ap (λ f. walk_always N (covers g.N.Set.ConditionSet.holds c.args.sets.now) f [] (as_pos c.args.start)) e, refl, refl)
 
 -- A part from the start.
 from_start : (at : RouteStep) (steps : List RouteStep) (k : ℕ) (o : Option ℕ) → o ≡ index_of (as_pos at) (map as_pos (take (k - 0) steps)) → index_of (as_pos at) (map as_pos (take k steps)) ≡ o
@@ -41,11 +34,10 @@ returns-in-None g c =
     let inside : k < length steps = (let l = c.loop-count.invariant.2 in omega arith) in
     let fuel : places N + 1 - k ≡ suc (places N - k) = omega arith in
     let seen : List Pos = map as_pos (take k steps) in
-    written_front total c.args.steps.now (set steps k at) (k + 1) _ (simp length-set (omega arith))
+    written_last total c.args.steps.now steps k at _ inside
     (c.loop-count.invariant.0 ∙ ap (λ f. walk_always N X f seen (as_pos at)) fuel
-    ∙ walk_rests N X seen (as_pos at) (places N - k) (from_start at steps k _ c.in_default.ensures) (next_is_none _ (sym c.in-None.is ∙ c.next_into.ensures))
-    ∙ ap (λ (ps : List Pos). record { positions = ps; ending = Rests }) (sym (seen_more steps k at inside)))
-    (drop-set-lt (k + 1) steps k at (omega arith) ∙ drop_more steps c.args.steps.now k c.loop-count.invariant.1)
+    ∙ walk_rests N X seen (as_pos at) (places N - k) (from_start at steps k _ c.in_default.ensures) (next_is_none _ (sym c.in-None.is ∙ c.next_into.ensures)))
+    c.loop-count.invariant.1
 
 pub loop-count-preserved : goal.loop-count-preserved
 loop-count-preserved g c =
@@ -63,7 +55,7 @@ loop-count-preserved g c =
           ∙ walk_goes_on N X seen (as_pos at) (places N - k) (as_pos next) (from_start at steps k _ c.in_default.ensures) (next_is _ next (sym c.in-Some-next_into.is ∙ c.next_into.ensures))
           ∙ ap (λ (ps : List Pos). walk_always N X (places N - k) ps (as_pos next)) (sym (seen_more steps k at inside))
           ∙ ap (λ f. walk_always N X f (map as_pos (take (k + 1) (set steps k at))) (as_pos next)) less,
-      drop-set-lt (k + 1) steps k at (omega arith) ∙ drop_more steps c.args.steps.now k c.loop-count.invariant.1,
+      rest_more steps c.args.steps.now k at c.loop-count.invariant.1,
       length-set steps k at ∙ c.loop-count.invariant.2,
     )
 

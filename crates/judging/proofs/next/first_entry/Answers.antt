@@ -1,4 +1,4 @@
-use Rattle.std.proofs.Common.{◌≡◌, ℕ, None, Option, sym, refl, ap, ◌∙◌, arith}
+use Rattle.std.proofs.Common.{◌≡◌, ℕ, None, Option, sym, ap, ◌∙◌, arith}
 use Rattle.routing.specs.Net.{Net, Pos}
 use Rattle.routing.specs.Bindings.{linked}
 use Rattle.judging.specs.Chosen.{at_place}
@@ -10,9 +10,6 @@ use Rattle.judging.proofs.next.first_entry.Goals.{in-Some+then-b-at+then-contain
 -- Where nothing is given of a place, it has no entry.
 no_entry : (t : ℕ) (a : Option ℕ) (e : Option Pos) → at_place t a ≡ e → a ≡ None → e ≡ None
 no_entry t a e is none = sym is ∙ ap (at_place t) none
-
-pub loop-i-init : goal.loop-i-init
-loop-i-init g c = λ enter gives. refl
 
 pub returns-in-Some-entry : goal.returns-in-Some-entry
 returns-in-Some-entry g c = λ enter gives.

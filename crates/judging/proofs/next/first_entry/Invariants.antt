@@ -1,7 +1,7 @@
 use Rattle.std.proofs.Common.{◌≡◌, ℕ, drop, Option}
 use Rattle.routing.specs.Net.{Pos, places}
 use Rattle.judging.specs.Notes.{first_link}
-use Rattle.judging.specs.Rules.{Gives}
+use Rattle.judging.specs.Callbacks.{Gives}
 use Rattle.judging.specs.Steps.{as_pos}
 use Rattle.judging.proofs.next.first_entry.Given as goal
 

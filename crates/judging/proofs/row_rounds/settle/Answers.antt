@@ -6,9 +6,6 @@ use Rattle.judging.specs.Judged.{covers}
 use Rattle.judging.proofs.Turns.{turn_ends, turn_keeps, lists_same, lists_go_on, least_at, has_at}
 use Rattle.judging.proofs.row_rounds.settle.Goals as goal
 
-pub loop-round-init : goal.loop-round-init
-loop-round-init g c = λ f t makes turns first. record { has = first; moving = λ j l. absurd (omega arith) }
-
 pub loop-round-preserved : goal.loop-round-preserved
 loop-round-preserved g c = λ f t makes turns first.
     let holds = g.N.Set.ConditionSet.holds in

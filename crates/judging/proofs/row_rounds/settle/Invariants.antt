@@ -3,7 +3,7 @@ use Rattle.routing.specs.Net.{Pos}
 use Rattle.rounds.specs.Claims.{Is}
 use Rattle.rounds.specs.Rounds.{Decided}
 use Rattle.judging.specs.Judged.{covers}
-use Rattle.judging.specs.Rules.{Makes, Turns}
+use Rattle.judging.specs.Callbacks.{Makes, Turns}
 use Rattle.judging.proofs.Turns.{Reached}
 use Rattle.judging.proofs.row_rounds.settle.Given as goal
 

@@ -1,19 +1,12 @@
-use Rattle.std.proofs.Common.{ℕ, ◌+◌, ◌^◌, ◌<◌, List, length, Decides, sym, ◌∙◌, subst, arith}
+use Rattle.std.proofs.Common.{ℕ, ◌+◌, ◌^◌, ◌<◌, List, length, Decides, sym, subst, arith}
 use Rattle.routing.specs.Net.{Pos, Net, settings}
 use Rattle.routing.specs.Bindings.{linked}
 use Rattle.rounds.specs.Claims.{Is}
 use Rattle.judging.specs.Judged.{covers}
 use Rattle.judging.proofs.Covers.{covers_below}
-use Rattle.judging.proofs.Into.{Into, into_none, into_more, into_all}
+use Rattle.judging.proofs.Into.{Into, into_more, into_all}
 use Rattle.judging.proofs.row_rounds.steps_into.Goals as goal
 use Rattle.judging.proofs.row_rounds.steps_into.Goals.{in-Some, in_default}
-
-pub loop-i-init : goal.loop-i-init
-loop-i-init g c = λ x within.
-    let holds = g.N.Set.ConditionSet.holds in
-    let N : Net = g.N.Network.meaning c.args.net.now in
-    let in_out : x.place < length c.args.out.now = omega (arith, within.place_in) in
-    into_none N (Is (covers holds c.args.sets.now)) _ x (c.fill.ensures x in_out ∙ c.none.ensures x.setting)
 
 pub loop-i-preserved : goal.loop-i-preserved
 loop-i-preserved g c = λ x within.

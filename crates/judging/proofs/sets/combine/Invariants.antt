@@ -1,5 +1,5 @@
 use Rattle.std.proofs.Common.{Bool, Decides}
-use Rattle.judging.specs.Rules.{Makes}
+use Rattle.judging.specs.Callbacks.{Makes}
 use Rattle.judging.proofs.Updates.{MadeBy, Beyond, Unchanged}
 use Rattle.judging.proofs.sets.combine.Given as goal
 

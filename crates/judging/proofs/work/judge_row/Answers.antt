@@ -16,16 +16,6 @@ copy_operand-requires g c =
       within = operand_within c.operands-p.result.0 (first_is_row op) (coded op).first c.args.row n (length c.args.main.now) c.operands-p.ensures.first c.requires.first room;
     }
 
-pub copy_operand-requires-2 : goal.copy_operand-requires-2
-copy_operand-requires-2 g c =
-    let n = c.places-n.result in
-    let op = c.args.op in
-    let room : c.args.row * n + n ≤ length c.args.main.now = subst (λ (m : ℕ). c.args.row * m + m ≤ length c.args.main.now) (sym c.places-n.ensures) c.requires.room in
-    record {
-      long = simp length-take (omega arith);
-      within = operand_within c.operands-p.result.1 (second_is_row op) (coded op).second c.args.row n (length c.args.main.now) c.operands-p.ensures.second c.requires.second room;
-    }
-
 pub returns : goal.returns
 returns g c =
     let holds = g.N.Set.ConditionSet.holds in

@@ -6,18 +6,12 @@ use Rattle.plan.specs.Shape.{faulty}
 use Rattle.plan.specs.Writing.{lent, long_fault}
 use Rattle.plan.proofs.Firsts.{err_of}
 use Rattle.plan.proofs.Lent.{lent_length, lent_past, drop_lent, length_lent_more}
-use Rattle.plan.proofs.Limits.{many_texts, few_texts, long_here, long_next, long_none, limit_test, not_long}
+use Rattle.plan.proofs.Limits.{few_texts, long_here, long_next, long_none, limit_test, not_long}
 use Rattle.plan.proofs.write.file_length.Goals as goal
 
 pub loop-text-init : goal.loop-text-init
 unfolding flat
 loop-text-init c = (omega arith, refl, omega arith)
-
-pub returns-in_err-check-clause-fault : goal.returns-in_err-check-clause-fault
-returns-in_err-check-clause-fault c =
-    let count = ap (λ (n : ℕ). faulty (ltb 8 n) OverLimit 18) (sym (lent_length c.args.texts.now)) in
-    err_of c.from_residual.result _ _ c.from_residual.ensures.1
-    (many_texts c.args.start (lent c.args.texts.now) _ (c.in_err-check.ensures ∙ (limit_test (length c.args.texts.now) 8 18 ∙ count)))
 
 -- What the test of the count says of the texts that are lent.
 few : (texts : List (Bor (List ℕ))) → None ≡ faulty (not (leb (length texts) 8)) OverLimit 18 → None ≡ faulty (ltb 8 (length (lent texts))) OverLimit 18

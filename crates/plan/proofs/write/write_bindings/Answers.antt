@@ -3,8 +3,8 @@ use Rattle.conditions.specs.declared.word.Word.{Word}
 use Rattle.routing.specs.declared.binding.Binding.{Binding}
 use Rattle.output.proofs.Puts.{put_nothing}
 use Rattle.plan.specs.Format.{flat, binding_bytes}
-use Rattle.plan.proofs.Elements.{each_none, each_more, each_all}
-use Rattle.plan.proofs.Writes.{put_more, put_all, room_next, length_binding}
+use Rattle.plan.proofs.Elements.{each_none, each_more}
+use Rattle.plan.proofs.Writes.{put_more, room_next, length_binding}
 use Rattle.plan.proofs.write.write_bindings.Goals as goal
 
 pub loop-b-init : goal.loop-b-init
@@ -25,9 +25,3 @@ loop-b-preserved c = (
   put_more binding_bytes c.args.records.now c.loop-b.b-index _ c.loop-b-test.true c.loop-b.invariant.0 c.write_binding-next.ensures.put,
   each_more (λ b. b.set.0 < 2 ^ 64) c.args.records.now c.loop-b.b-index _ c.loop-b-test.true c.loop-b.invariant.1 c.write_binding-next.ensures.fits,
 )
-
-pub returns : goal.returns
-returns c = record {
-  put = put_all binding_bytes c.args.records.now c.loop-b.b-index c.loop-b-test.false c.loop-b.invariant.0;
-  fit = each_all (λ b. b.set.0 < 2 ^ 64) c.args.records.now c.loop-b.b-index c.loop-b-test.false c.loop-b.invariant.1;
-}

@@ -1,10 +1,9 @@
 use Rattle.std.proofs.Common.{length, sym, ap, arith}
-use Rattle.plan.specs.Format.{Plan, contents, binding_bytes}
+use Rattle.plan.specs.Format.{Plan, contents}
 use Rattle.plan.specs.Writing.{plan_with}
-use Rattle.plan.proofs.Encoded.{length_marks, length_encoded, put_parts}
-use Rattle.plan.proofs.Flat.{length_flat}
+use Rattle.plan.proofs.Encoded.{length_parts, put_parts}
 use Rattle.plan.proofs.Lent.{lent_length}
-use Rattle.plan.proofs.Writes.{put_same, length_contents, length_binding}
+use Rattle.plan.proofs.Writes.{put_same, length_contents}
 use Rattle.plan.proofs.write.write_file.Goals as goal
 
 pub write_contents-behind_contents-requires : goal.write_contents-behind_contents-requires
@@ -14,7 +13,7 @@ write_contents-behind_contents-requires c =
       few_places = c.requires.few_places;
       few_bindings = c.requires.few_bindings;
       few_rules = omega (arith, lent_length c.args.texts.now, c.requires.few_rules);
-      room = omega (arith, c.requires.fits, length_encoded p);
+      room = omega (arith, c.requires.fits, length_parts p);
     }
 
 pub write_marks-behind_marks-requires : goal.write_marks-behind_marks-requires
@@ -22,10 +21,9 @@ write_marks-behind_marks-requires c =
     omega (
       arith,
       c.requires.fits,
-      length_encoded (plan_with c.args.marks.now c.args.records.now c.args.texts.now),
+      length_parts (plan_with c.args.marks.now c.args.records.now c.args.texts.now),
       c.write_contents-behind_contents.ensures.ends,
       length_contents (length c.args.marks.now) (length c.args.records.now) (length c.args.texts.now),
-      length_marks c.args.marks.now,
     )
 
 pub write_bindings-behind_bindings-requires : goal.write_bindings-behind_bindings-requires
@@ -33,12 +31,10 @@ write_bindings-behind_bindings-requires c =
     omega (
       arith,
       c.requires.fits,
-      length_encoded (plan_with c.args.marks.now c.args.records.now c.args.texts.now),
+      length_parts (plan_with c.args.marks.now c.args.records.now c.args.texts.now),
       c.write_contents-behind_contents.ensures.ends,
       length_contents (length c.args.marks.now) (length c.args.records.now) (length c.args.texts.now),
       c.write_marks-behind_marks.ensures.put.ends,
-      length_marks c.args.marks.now,
-      length_flat 12 binding_bytes length_binding c.args.records.now,
     )
 
 pub write_texts-requires : goal.write_texts-requires
@@ -46,13 +42,11 @@ write_texts-requires c = record {
   room = omega (
     arith,
     c.requires.fits,
-    length_encoded (plan_with c.args.marks.now c.args.records.now c.args.texts.now),
+    length_parts (plan_with c.args.marks.now c.args.records.now c.args.texts.now),
     c.write_contents-behind_contents.ensures.ends,
     length_contents (length c.args.marks.now) (length c.args.records.now) (length c.args.texts.now),
     c.write_marks-behind_marks.ensures.put.ends,
-    length_marks c.args.marks.now,
     c.write_bindings-behind_bindings.ensures.put.ends,
-    length_flat 12 binding_bytes length_binding c.args.records.now,
   );
   rules = c.requires.rules;
 }

@@ -1,5 +1,4 @@
-use Rattle.std.proofs.Common.{◌≡◌, ℕ, ◌^◌, ◌<◌, true, List, length, None, Ok, Err, Option, Result, sym, refl, ap, ◌∙◌, subst, arith, Bor}
-use Rattle.std.specs.Result.{IsErrAnd}
+use Rattle.std.proofs.Common.{◌≡◌, ℕ, ◌^◌, ◌<◌, true, List, length, Option, sym, refl, ap, ◌∙◌, subst, arith, Bor}
 use Rattle.conditions.specs.declared.word.Word.{Word}
 use Rattle.conditions.specs.WordSets.{word_holds}
 use Rattle.routing.specs.declared.binding.Binding.{Binding}
@@ -8,14 +7,10 @@ use Rattle.routing.specs.Refusals.{all_inside}
 use Rattle.routing.specs.Sites.{site_records}
 use Rattle.routing.specs.Fitting.{nth_link, link_inside}
 use Rattle.plan.specs.declared.fault.FileFault.{FileFault}
-use Rattle.plan.specs.declared.fault.PlanFault.{PlanFault}
-use Rattle.plan.specs.declared.fault.PlanFault.TheVariants.{InFile, InText}
-use Rattle.plan.specs.declared.fault.WriteFault.{WriteFault}
-use Rattle.plan.specs.declared.fault.WriteFault.TheVariants.{BadPlan}
 use Rattle.output.specs.Put.{Put}
 use Rattle.plan.specs.Format.{Plan, encoded, rules_start}
 use Rattle.plan.specs.Reading.{Each, BindingFits}
-use Rattle.plan.specs.Writing.{lent, limits_fault, plan_with, site_plan, texts_fault, BadText, WriteRefused, Writing}
+use Rattle.plan.specs.Writing.{lent, limits_fault, plan_with, site_plan, texts_fault}
 use Rattle.plan.proofs.Encoded.{length_encoded}
 use Rattle.plan.proofs.Limits.{few_from_none}
 use Rattle.plan.proofs.write.write_plan.Goals as goal
@@ -24,32 +19,11 @@ use Rattle.plan.proofs.write.write_plan.Goals as goal
 same_plan : {m n : List ℕ} {r s : List (Binding Word)} (texts : List (Bor (List ℕ))) → m ≡ n → r ≡ s → plan_with m r texts ≡ plan_with n s texts
 same_plan {n} {r} texts marks records = ap (λ ms. plan_with ms r texts) marks ∙ ap (λ rs. plan_with n rs texts) records
 
--- A refusal, with the list as it was.
-refused : (p : Plan) (out : List ℕ) (r : Result ℕ WriteFault) (e : WriteFault) → IsErrAnd r (λ x. x ≡ e) → WriteRefused p (length out) e → Writing p out out r
-refused p out (Ok n) e is because = absurd is
-refused p out (Err x) e is because = (subst (WriteRefused p (length out)) (sym is) because, refl)
-
--- A text that is no rule, where no limit is passed.
-bad_plan : (p : Plan) (room : ℕ) (e : PlanFault) → limits_fault p ≡ None → BadText p.texts e → WriteRefused p room (BadPlan e)
-bad_plan p room (InFile f) none bad = absurd bad
-bad_plan p room (InText i f) none bad = (none, bad)
-
 -- The first limit that is passed, where the lists are those of the site table.
 limits_are : {m n : List ℕ} {r s : List (Binding Word)} (texts : List (Bor (List ℕ))) (start : ℕ) (fault : Option FileFault) → m ≡ n → r ≡ s
     → start ≡ rules_start (length m) (length r) → fault ≡ texts_fault start (lent texts) → limits_fault (plan_with n s texts) ≡ fault
 limits_are texts start fault marks records at is =
     sym (is ∙ (ap (λ (b : ℕ). texts_fault b (lent texts)) at ∙ ap limits_fault (same_plan texts marks records)))
-
-pub returns-in_err-length : goal.returns-in_err-length
-returns-in_err-length c =
-    refused (site_plan c.args.site.now c.args.texts.now) c.args.out.now c.from_residual.result _ c.from_residual.ensures.1
-    (limits_are c.args.texts.now c.binding_byte.result _ c.lent_marks-marks.ensures c.lent_records-records.ensures c.binding_byte.ensures c.in_err-length.ensures.fault)
-
-pub returns-in_err-check_texts : goal.returns-in_err-check_texts
-returns-in_err-check_texts c =
-    let none = limits_are c.args.texts.now c.binding_byte.result _ c.lent_marks-marks.ensures c.lent_records-records.ensures c.binding_byte.ensures c.in_ok-length.ensures.fault in
-    refused (site_plan c.args.site.now c.args.texts.now) c.args.out.now c.from_residual-in_err-check_texts.result _ c.from_residual-in_err-check_texts.ensures.1
-    (bad_plan _ (length c.args.out.now) c.in_err-check_texts.field-0.0 none c.in_err-check_texts.ensures)
 
 pub returns-then-out-length : goal.returns-then-out-length
 returns-then-out-length c =

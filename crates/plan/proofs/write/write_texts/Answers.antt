@@ -1,9 +1,7 @@
 use Rattle.std.proofs.Common.{arith}
 use Rattle.output.proofs.Puts.{put_nothing}
-use Rattle.plan.specs.Format.{flat, text_bytes}
-use Rattle.plan.specs.Writing.{lent}
-use Rattle.plan.proofs.Lent.{lent_past, room_lent, put_lent, short_lent}
-use Rattle.plan.proofs.Writes.{put_all}
+use Rattle.plan.specs.Format.{flat}
+use Rattle.plan.proofs.Lent.{room_lent, put_lent, short_lent}
 use Rattle.plan.proofs.write.write_texts.Goals as goal
 
 pub loop-text-init : goal.loop-text-init
@@ -18,8 +16,3 @@ write_text-next-requires c = record {
 
 pub loop-text-preserved : goal.loop-text-preserved
 loop-text-preserved c = put_lent c.args.texts.now c.loop-text.text-index _ c.loop-text-test.true c.loop-text.invariant c.write_text-next.ensures
-
-pub returns : goal.returns
-returns c =
-    put_all text_bytes (lent c.args.texts.now) c.loop-text.text-index (lent_past c.args.texts.now c.loop-text.text-index c.loop-text-test.false)
-    c.loop-text.invariant

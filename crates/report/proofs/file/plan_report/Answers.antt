@@ -1,22 +1,8 @@
-use Rattle.std.proofs.Common.{◌+◌, ◌<◌, length, None, sym, refl, ap, subst, arith}
+use Rattle.std.proofs.Common.{◌+◌, ◌<◌, length, None, sym, ap, subst, arith}
 use Rattle.plan.specs.Files.{file_plan}
-use Rattle.report.proofs.Listing.{Printed, printed_none, printed_rule, printed_all}
+use Rattle.report.proofs.Listing.{Printed, printed_rule}
 use Rattle.report.proofs.file.plan_report.Goals as goal
 use Rattle.report.proofs.file.plan_report.Goals.{in-Some, in_default}
-
-pub loop-rule-init : goal.loop-rule-init
-loop-rule-init c = record {
-  printed = printed_none (file_plan c.args.plan.now) None c.new-report.result c.new-report.ensures.text c.new-report.ensures.fault;
-  main = refl;
-  spare = refl;
-}
-
-pub add_rule-requires : goal.add_rule-requires
-add_rule-requires c = record {
-  taken = c.in-Some.ensures.accepted;
-  main_room = omega arith;
-  spare_room = omega arith;
-}
 
 pub loop-rule-preserved : goal.loop-rule-preserved
 loop-rule-preserved c =
@@ -33,9 +19,3 @@ loop-rule-preserved c =
           }
       | in_default w ↦ let past = w.in_default.ensures in absurd (omega arith)
     ]
-
-pub returns : goal.returns
-returns c = record {
-  lines = printed_all (file_plan c.args.plan.now) None c.loop-rule.rule c.loop-rule.report (omega arith) c.loop-rule.invariant.printed;
-  fault = c.loop-rule.invariant.printed.fault;
-}

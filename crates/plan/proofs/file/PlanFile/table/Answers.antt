@@ -1,22 +1,14 @@
-use Rattle.std.proofs.Common.{◌≡◌, ℕ, ◌<◌, ◌≤◌, List, length, Ok, Err, Result, IsOk, refl, sym, subst, arith}
+use Rattle.std.proofs.Common.{◌≡◌, ℕ, ◌<◌, List, Ok, Err, Result, IsOk, refl, sym, subst, arith}
 use mathlib.Core.Logic.{∥∥₁_elim}
-use Rattle.std.specs.Option.{MatchOption}
 use Rattle.routing.specs.Rules.{Rule}
 use Rattle.rule_text.specs.declared.fault.Fault.{Fault}
 use Rattle.rule_text.specs.declared.table.Table.{Table}
 use Rattle.rule_text.specs.Reading.{Answer, Reading}
 use Rattle.rule_text.proofs.Once.{reading_once}
-use Rattle.plan.specs.Contents.{listed, rule_count, text_at}
-use Rattle.plan.specs.Files.{file_plan, TableOf}
+use Rattle.plan.specs.Contents.{rule_count, text_at}
 use Rattle.plan.specs.Reading.{TextsRead}
-use Rattle.plan.proofs.Listed.{listed_at, past_end}
+use Rattle.plan.proofs.Listed.{listed_at}
 use Rattle.plan.proofs.file.PlanFile.table.Goals as goal
-
-pub returns-in_err-text : goal.returns-in_err-text
-returns-in_err-text c =
-    let texts = listed (rule_count c.args.self.now.file.bytes.now) (text_at c.args.self.now.file.bytes.now) in
-    let past : length texts ≤ c.args.rule = past_end texts _ (sym c.in_err-text.ensures) in
-    subst (λ o. MatchOption o (length texts ≤ c.args.rule) (TableOf (file_plan c.args.self.now) c.args.rule)) (sym c.from_residual.ensures) past
 
 -- A text that is a rule is not refused.
 never : (file text : List ℕ) (i : ℕ) (e : Fault) → i < rule_count file → text_at file i ≡ text → TextsRead file → Reading 6 text (Err e) → ⊥

@@ -85,46 +85,39 @@ choice-returns-clause-reads t c =
 
 pub one-returns-in_err-enter-in-Yes-clause-reads : goal.one-returns-in_err-enter-in-Yes-clause-reads
 one-returns-in_err-enter-in-Yes-clause-reads t c =
-    left_with (OneRead c.args.levels c.args.self.now (parser c.enter.new.self c.args.self.now.table)) c.from_residual.result
-    c.in_err-enter-in-Yes.field-0.0 c.from_residual.ensures.1
-    (Parts.one_not_entered c.args.levels c.args.self.now.reader c.enter.new.self Yes c.in_err-enter-in-Yes.field-0.0
-    (c.in-Some.is ∙ ap Some c.in-Yes.is) refl c.in_err-enter-in-Yes.ensures.enters (λ xs o l K. (_, refl)))
+    Parts.one_not_entered c.args.levels c.args.self.now.reader c.enter.new.self c.args.self.now.table Yes c.from_residual.result
+    c.in_err-enter-in-Yes.field-0.0 c.from_residual.ensures.1 (c.in-Some.is ∙ ap Some c.in-Yes.is) refl
+    c.in_err-enter-in-Yes.ensures.enters (λ xs o l K. (_, refl))
 
 pub one-returns-in_err-enter-in-Mark-clause-reads : goal.one-returns-in_err-enter-in-Mark-clause-reads
 one-returns-in_err-enter-in-Mark-clause-reads t c =
-    left_with (OneRead c.args.levels c.args.self.now (parser c.enter-in-Mark.new.self c.args.self.now.table))
-    c.from_residual-in_err-enter-in-Mark.result c.in_err-enter-in-Mark.field-0.0 c.from_residual-in_err-enter-in-Mark.ensures.1
-    (Parts.one_not_entered c.args.levels c.args.self.now.reader c.enter-in-Mark.new.self (Mark c.in-Mark.k) c.in_err-enter-in-Mark.field-0.0
-    (c.in-Some.is ∙ ap Some c.in-Mark.is) refl c.in_err-enter-in-Mark.ensures.enters (λ xs o l K. (_, refl)))
+    Parts.one_not_entered c.args.levels c.args.self.now.reader c.enter-in-Mark.new.self c.args.self.now.table (Mark c.in-Mark.k) c.from_residual-in_err-enter-in-Mark.result
+    c.in_err-enter-in-Mark.field-0.0 c.from_residual-in_err-enter-in-Mark.ensures.1 (c.in-Some.is ∙ ap Some c.in-Mark.is) refl
+    c.in_err-enter-in-Mark.ensures.enters (λ xs o l K. (_, refl))
 
 pub one-returns-in_err-enter-in-Condition-clause-reads : goal.one-returns-in_err-enter-in-Condition-clause-reads
 one-returns-in_err-enter-in-Condition-clause-reads t c =
-    left_with (OneRead c.args.levels c.args.self.now (parser c.enter-in-Condition.new.self c.args.self.now.table))
-    c.from_residual-in_err-enter-in-Condition.result c.in_err-enter-in-Condition.field-0.0 c.from_residual-in_err-enter-in-Condition.ensures.1
-    (Parts.one_not_entered c.args.levels c.args.self.now.reader c.enter-in-Condition.new.self (Condition c.in-Condition.k)
-    c.in_err-enter-in-Condition.field-0.0 (c.in-Some.is ∙ ap Some c.in-Condition.is) refl c.in_err-enter-in-Condition.ensures.enters
-    (λ xs o l K. (_, refl)))
+    Parts.one_not_entered c.args.levels c.args.self.now.reader c.enter-in-Condition.new.self c.args.self.now.table (Condition c.in-Condition.k) c.from_residual-in_err-enter-in-Condition.result
+    c.in_err-enter-in-Condition.field-0.0 c.from_residual-in_err-enter-in-Condition.ensures.1 (c.in-Some.is ∙ ap Some c.in-Condition.is) refl
+    c.in_err-enter-in-Condition.ensures.enters (λ xs o l K. (_, refl))
 
 pub one-returns-in_err-enter-in-Before-clause-reads : goal.one-returns-in_err-enter-in-Before-clause-reads
 one-returns-in_err-enter-in-Before-clause-reads t c =
-    left_with (OneRead c.args.levels c.args.self.now (parser c.enter-in-Before.new.self c.args.self.now.table))
-    c.from_residual-in_err-enter-in-Before.result c.in_err-enter-in-Before.field-0.0 c.from_residual-in_err-enter-in-Before.ensures.1
-    (Parts.one_not_entered c.args.levels c.args.self.now.reader c.enter-in-Before.new.self (Before c.in-Before.prefix)
-    c.in_err-enter-in-Before.field-0.0 (c.in-Some.is ∙ ap Some c.in-Before.is) refl c.in_err-enter-in-Before.ensures.enters (λ xs o l K. (_, refl)))
+    Parts.one_not_entered c.args.levels c.args.self.now.reader c.enter-in-Before.new.self c.args.self.now.table (Before c.in-Before.prefix) c.from_residual-in_err-enter-in-Before.result
+    c.in_err-enter-in-Before.field-0.0 c.from_residual-in_err-enter-in-Before.ensures.1 (c.in-Some.is ∙ ap Some c.in-Before.is) refl
+    c.in_err-enter-in-Before.ensures.enters (λ xs o l K. (_, refl))
 
 pub one-returns-in_err-enter-in-Open-clause-reads : goal.one-returns-in_err-enter-in-Open-clause-reads
 one-returns-in_err-enter-in-Open-clause-reads t c =
-    left_with (OneRead c.args.levels c.args.self.now (parser c.enter-in-Open.new.self c.args.self.now.table))
-    c.from_residual-in_err-enter-in-Open.result c.in_err-enter-in-Open.field-0.0 c.from_residual-in_err-enter-in-Open.ensures.1
-    (Parts.one_not_entered c.args.levels c.args.self.now.reader c.enter-in-Open.new.self Open c.in_err-enter-in-Open.field-0.0
-    (c.in-Some.is ∙ ap Some c.in-Open.is) refl c.in_err-enter-in-Open.ensures.enters (λ xs o l K. (_, refl)))
+    Parts.one_not_entered c.args.levels c.args.self.now.reader c.enter-in-Open.new.self c.args.self.now.table Open c.from_residual-in_err-enter-in-Open.result
+    c.in_err-enter-in-Open.field-0.0 c.from_residual-in_err-enter-in-Open.ensures.1 (c.in-Some.is ∙ ap Some c.in-Open.is) refl
+    c.in_err-enter-in-Open.ensures.enters (λ xs o l K. (_, refl))
 
 pub one-returns-in_err-enter-in-Routes-clause-reads : goal.one-returns-in_err-enter-in-Routes-clause-reads
 one-returns-in_err-enter-in-Routes-clause-reads t c =
-    left_with (OneRead c.args.levels c.args.self.now (parser c.enter-in-Routes.new.self c.args.self.now.table))
-    c.from_residual-in_err-enter-in-Routes.result c.in_err-enter-in-Routes.field-0.0 c.from_residual-in_err-enter-in-Routes.ensures.1
-    (Parts.one_not_entered c.args.levels c.args.self.now.reader c.enter-in-Routes.new.self (Routes c.in-Routes.quantifier)
-    c.in_err-enter-in-Routes.field-0.0 (c.in-Some.is ∙ ap Some c.in-Routes.is) refl c.in_err-enter-in-Routes.ensures.enters (λ xs o l K. (_, refl)))
+    Parts.one_not_entered c.args.levels c.args.self.now.reader c.enter-in-Routes.new.self c.args.self.now.table (Routes c.in-Routes.quantifier) c.from_residual-in_err-enter-in-Routes.result
+    c.in_err-enter-in-Routes.field-0.0 c.from_residual-in_err-enter-in-Routes.ensures.1 (c.in-Some.is ∙ ap Some c.in-Routes.is) refl
+    c.in_err-enter-in-Routes.ensures.enters (λ xs o l K. (_, refl))
 
 pub one-returns-in_ok-enter-in-Yes-clause-reads : goal.one-returns-in_ok-enter-in-Yes-clause-reads
 one-returns-in_ok-enter-in-Yes-clause-reads t c =

@@ -41,6 +41,3 @@ loop-rule-preserved c =
       read = below_more (λ (j : ℕ). IsRuleText (text_at file j)) c.loop-rule.rule c.loop-rule.invariant.read
           (subst IsRuleText same c.in_ok-check_text.ensures);
     }
-
-pub returns : goal.returns
-returns c = let are = c.args.self.now.rules_are in λ i below. c.loop-rule.invariant.read i (omega arith)

@@ -11,9 +11,6 @@ returns-then-rule-self c =
     let are = c.args.self.now.rules_are in
     sym (nth_past (rule_count file) (text_at file) c.args.rule (omega arith))
 
-pub rule_byte-requires : goal.rule_byte-requires
-rule_byte-requires c = let are = c.args.self.now.rules_are in omega arith
-
 pub text_of-requires : goal.text_of-requires
 text_of-requires c =
     let file = c.args.self.now.bytes.now in

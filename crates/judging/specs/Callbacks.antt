@@ -1,4 +1,4 @@
--- What functions that are passed on do, by what their results mean.
+-- What callbacks, functions that a caller passes on, do: said by what their results mean.
 use Rattle.std.specs.Prelude.{◌≡◌, ℕ, suc, ◌<◌, Bool, Option}
 use Rattle.routing.specs.Net.{Net, Pos, Within}
 use Rattle.routing.specs.Routes.{SomeNext}
