@@ -36,10 +36,13 @@ fn asked<N: Network>(
     if !is_accepted(table, conditions) {
         return Err(Refusal::BadTable);
     }
-    if row >= table.len() || at.place >= net.places() || at.setting >= settings::<N::Set>() {
+    if at.place >= net.places() || at.setting >= settings::<N::Set>() {
         return Err(Refusal::BadQuery);
     }
-    match read_row(table[row], row, conditions) {
+    let Some(found) = table.get(row) else {
+        return Err(Refusal::BadQuery);
+    };
+    match read_row(*found, row, conditions) {
         Some(op @ (Operation::Next(_) | Operation::Until(_, _) | Operation::Always(_))) => Ok(op),
         _ => Err(Refusal::BadQuery),
     }

@@ -15,7 +15,7 @@ use crate::shown::{Ending, RouteStep, Shown};
 use crate::until::walk_down;
 use crate::work::copy_operand;
 use conditions::set::ConditionSet;
-use routing::network::Network;
+use routing::network::{MOST_PLACES, Network};
 use tables::row::Operation;
 
 // Shows one step into the sets.
@@ -67,7 +67,7 @@ fn walk_until<N: Network>(
         (covers N.Set.ConditionSet.holds p.now) (covers N.Set.ConditionSet.holds part.old) (as_pos at))
         steps.old steps.new result }
 {
-    let mut notes = [None; 256];
+    let mut notes = [None; MOST_PLACES];
     match note_rounds(net, part, p, into, at, &mut notes) {
         Some(hops) => walk_down(net, &notes, at, hops, steps),
         None => Shown {

@@ -16,7 +16,7 @@ pub enum Ending {
 }
 
 // How many positions are shown, and the ending.
-#[derive(Clone, Copy)]
+#[derive(Clone, Copy, Debug, PartialEq, Eq)]
 pub struct Shown {
     pub count: usize,
     pub ending: Ending,

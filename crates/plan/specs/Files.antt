@@ -16,7 +16,7 @@ use Rattle.plan.specs.Shape.{shape_fault}
 
 -- The bytes that are lent, and the plan that their fields hold.
 abbrev pub file_bytes : PlanFile → List ℕ
-file_bytes f = f.file.bytes.now
+file_bytes f = f.file.counted.bytes.now
 
 abbrev pub file_plan : PlanFile → Plan
 file_plan f = plan_of (file_bytes f)

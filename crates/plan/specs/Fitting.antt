@@ -21,7 +21,7 @@ file_fits f =
     let bindings = length_listed (binding_count (file_bytes f)) (binding_at (file_bytes f)) in
     let few_places = f.file.few_places in
     let few_bindings = f.file.few_bindings in
-    let places_are = f.file.places_are in
-    let bindings_are = f.file.bindings_are in
+    let places_are = f.file.counted.places_are in
+    let bindings_are = f.file.counted.bindings_are in
     lists_fit 6 word_holds (file_plan f).marks (file_plan f).records (omega arith) (omega arith)
     (subst (λ (n : ℕ). all_inside n (file_plan f).records ≡ true) (sym places) f.file.ends)

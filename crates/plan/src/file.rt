@@ -10,5 +10,5 @@ use crate::file::shaped::ShapedFile;
 #[derive(Clone, Copy)]
 pub struct PlanFile<'a> {
     file: ShapedFile<'a>,
-    ghost read: { ∥ TextsRead file.bytes.now ∥₁ },
+    ghost read: { ∥ TextsRead file.counted.bytes.now ∥₁ },
 }

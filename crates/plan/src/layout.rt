@@ -23,5 +23,3 @@ pub(crate) const PLACE_BYTES: usize = 4;
 pub(crate) const BINDING_BYTES: usize = 12;
 
 pub(crate) const MOST_RULES: usize = 8;
-
-pub(crate) const MOST_TEXT_BYTES: usize = 200;

@@ -1,5 +1,5 @@
 // The tests of a file outside the texts of its rules.
-ghost use Rattle.std.specs.Prelude.{◌≡◌, ◌+◌, ◌<◌, ◌≤◌, [], ◌∷◌, length, nat_lt, not};
+ghost use Rattle.std.specs.Prelude.{◌≡◌, ◌+◌, ◌<◌, ◌≤◌, [], ◌∷◌, length, nat_lt, not, IfOk};
 ghost use Rattle.std.specs.Result.{result_err};
 ghost use Rattle.plan.specs.Contents.{binding_count, place_count, rule_count};
 ghost use Rattle.plan.specs.Format.{longest, rules_start};
@@ -21,10 +21,11 @@ ghost use Rattle.plan.specs.Shape.{
 use crate::fault::{FileFault, FileFaultKind};
 use crate::fields::{u16_at, u32_at};
 use crate::layout::{
-    BINDING_BYTES, BINDING_COUNT, BINDINGS, FIRST_BODY, MOST_RULES, MOST_TEXT_BYTES, PLACE_BYTES,
-    PLACE_COUNT, PLACES, RULE_COUNT, RULES,
+    BINDING_BYTES, BINDING_COUNT, BINDINGS, FIRST_BODY, MOST_RULES, PLACE_BYTES, PLACE_COUNT,
+    PLACES, RULE_COUNT, RULES,
 };
 use routing::network::{MOST_BINDINGS, MOST_PLACES};
+use rule_text::read::MOST_BYTES;
 
 // The fault at the byte, where the test does not hold.
 pub(crate) fn check(holds: bool, kind: FileFaultKind, byte: usize) -> Result<(), FileFault>
@@ -44,15 +45,6 @@ fn check_limit(file: &[u8], at: usize, limit: usize) -> Result<(), FileFault>
 {
     let value = usize::from(u16_at(file, at));
     check(value <= limit, FileFaultKind::OverLimit, at)
-}
-
-fn check_counts(file: &[u8]) -> Result<(), FileFault>
-    requires { 24 ≤ length file.now }
-    ensures { result_err result ≡ counts_fault file.now }
-{
-    check_limit(file, PLACE_COUNT, MOST_PLACES)?;
-    check_limit(file, BINDING_COUNT, MOST_BINDINGS)?;
-    check_limit(file, RULE_COUNT, MOST_RULES)
 }
 
 // The byte where the binding with this number begins. Behind the last binding the rules begin.
@@ -75,17 +67,6 @@ fn check_entry(file: &[u8], at: usize, kind: u16, start: usize) -> Result<(), Fi
     check(same, FileFaultKind::BadContents, at + 4)
 }
 
-fn check_contents(file: &[u8]) -> Result<(), FileFault>
-    requires { 24 ≤ length file.now }
-    ensures { result_err result ≡ contents_fault file.now }
-{
-    let places = usize::from(u16_at(file, PLACE_COUNT));
-    let bindings = usize::from(u16_at(file, BINDING_COUNT));
-    check_entry(file, 0, PLACES, FIRST_BODY)?;
-    check_entry(file, 8, BINDINGS, binding_byte(places, 0))?;
-    check_entry(file, 16, RULES, binding_byte(places, bindings))
-}
-
 // The length of the text of the rule that begins at `byte`: it lies in the file and keeps to its limit.
 fn check_length(file: &[u8], byte: usize, total: usize) -> Result<(), FileFault>
     requires front { byte + 2 ≤ total → byte + 2 ≤ length file.now }
@@ -94,29 +75,7 @@ fn check_length(file: &[u8], byte: usize, total: usize) -> Result<(), FileFault>
         ≡ first_fault (wrong_length (nat_lt total (byte + 2)) total ∷ over 200 2 byte file.now ∷ []) }
 {
     check(total >= byte + 2, FileFaultKind::WrongLength, total)?;
-    check_limit(file, byte, MOST_TEXT_BYTES)
-}
-
-// The lengths of the rules' texts, and the end of the file behind the last of them.
-fn check_rules(file: &[u8], total: usize) -> Result<(), FileFault>
-    requires long { 24 ≤ length file.now }
-    requires front { length file.now < longest → length file.now ≡ total }
-    requires few_places { place_count file.now ≤ 256 }
-    requires few_bindings { binding_count file.now ≤ 4096 }
-    requires few_rules { rule_count file.now ≤ 8 }
-    ensures { result_err result
-        ≡ first_fault (lengths_fault total file.now 0 (rule_count file.now)
-        ∷ end_fault total file.now ∷ []) }
-{
-    let mut byte = binding_byte(
-        usize::from(u16_at(file, PLACE_COUNT)),
-        usize::from(u16_at(file, BINDING_COUNT)),
-    );
-    for rule in 0..u16_at(file, RULE_COUNT) {
-        check_length(file, byte, total)?;
-        byte += 2 + usize::from(u16_at(file, byte));
-    }
-    check(byte == total, FileFaultKind::WrongLength, total)
+    check_limit(file, byte, MOST_BYTES)
 }
 
 // 8 where the field of two bytes is none of the places.
@@ -129,30 +88,100 @@ fn check_end(file: &[u8], at: usize, places: usize) -> Result<(), FileFault>
     check(end < places, FileFaultKind::NoPlace, at)
 }
 
-// The ends of the bindings, from before to.
-fn check_ends(file: &[u8]) -> Result<(), FileFault>
-    requires long { rules_start (place_count file.now) (binding_count file.now) ≤ length file.now }
-    ensures { result_err result ≡ ends_fault file.now 0 (binding_count file.now) }
-{
-    let places = usize::from(u16_at(file, PLACE_COUNT));
-    let bindings = usize::from(u16_at(file, BINDING_COUNT));
-    for number in 0..bindings {
-        let byte = binding_byte(places, number);
-        check_end(file, byte, places)?;
-        check_end(file, byte + 2, places)?;
-    }
-    Ok(())
+// A file that is long enough for its contents, and the counts that stand there.
+#[derive(Clone, Copy)]
+pub(crate) struct CountedFile<'a> {
+    pub(crate) bytes: &'a [u8],
+    pub(crate) places: usize,
+    pub(crate) bindings: usize,
+    pub(crate) rules: usize,
+    ghost long: { 24 ≤ length bytes.now },
+    ghost places_are: { places ≡ place_count bytes.now },
+    ghost bindings_are: { bindings ≡ binding_count bytes.now },
+    ghost rules_are: { rules ≡ rule_count bytes.now },
+    ghost small_places: { places < 65536 },
+    ghost small_bindings: { bindings < 65536 },
 }
 
-// The first fault of a file of `total` bytes, of which `file` has at least the front that a plan could fill.
+impl<'a> CountedFile<'a> {
+    fn read(bytes: &'a [u8]) -> CountedFile<'a>
+        requires { 24 ≤ length bytes.now }
+        ensures { result.bytes.now ≡ bytes.now }
+    {
+        CountedFile {
+            bytes,
+            places: usize::from(u16_at(bytes, PLACE_COUNT)),
+            bindings: usize::from(u16_at(bytes, BINDING_COUNT)),
+            rules: usize::from(u16_at(bytes, RULE_COUNT)),
+        }
+    }
+
+    fn check_counts(&self) -> Result<(), FileFault>
+        ensures { result_err result ≡ counts_fault self.now.bytes.now }
+    {
+        check_limit(self.bytes, PLACE_COUNT, MOST_PLACES)?;
+        check_limit(self.bytes, BINDING_COUNT, MOST_BINDINGS)?;
+        check_limit(self.bytes, RULE_COUNT, MOST_RULES)
+    }
+
+    fn check_contents(&self) -> Result<(), FileFault>
+        ensures { result_err result ≡ contents_fault self.now.bytes.now }
+    {
+        check_entry(self.bytes, 0, PLACES, FIRST_BODY)?;
+        check_entry(self.bytes, 8, BINDINGS, binding_byte(self.places, 0))?;
+        check_entry(
+            self.bytes,
+            16,
+            RULES,
+            binding_byte(self.places, self.bindings),
+        )
+    }
+
+    // The lengths of the rules' texts, and the end of the file behind the last of them.
+    fn check_rules(&self, total: usize) -> Result<(), FileFault>
+        requires front { length self.now.bytes.now < longest → length self.now.bytes.now ≡ total }
+        requires few_places { self.now.places ≤ 256 }
+        requires few_bindings { self.now.bindings ≤ 4096 }
+        requires few_rules { self.now.rules ≤ 8 }
+        ensures { result_err result
+            ≡ first_fault (lengths_fault total self.now.bytes.now 0 (rule_count self.now.bytes.now)
+            ∷ end_fault total self.now.bytes.now ∷ []) }
+    {
+        let mut byte = binding_byte(self.places, self.bindings);
+        for rule in 0..self.rules {
+            check_length(self.bytes, byte, total)?;
+            byte += 2 + usize::from(u16_at(self.bytes, byte));
+        }
+        check(byte == total, FileFaultKind::WrongLength, total)
+    }
+
+    // The ends of the bindings, from before to.
+    fn check_ends(&self) -> Result<(), FileFault>
+        requires { rules_start self.now.places self.now.bindings ≤ length self.now.bytes.now }
+        ensures { result_err result ≡ ends_fault self.now.bytes.now 0 (binding_count self.now.bytes.now) }
+    {
+        for number in 0..self.bindings {
+            let byte = binding_byte(self.places, number);
+            check_end(self.bytes, byte, self.places)?;
+            check_end(self.bytes, byte + 2, self.places)?;
+        }
+        Ok(())
+    }
+}
+
+// A file with no fault, or the first fault of a file of `total` bytes, of which `file` has at least the front that a plan
+// could fill.
 #[tactic(auto, unfolding(crate::specs::Shape::shape_fault))]
-pub(crate) fn check_shape(file: &[u8], total: usize) -> Result<(), FileFault>
+pub(crate) fn check_shape(file: &[u8], total: usize) -> Result<CountedFile<'_>, FileFault>
     requires front { length file.now < longest → length file.now ≡ total }
-    ensures { result_err result ≡ shape_fault total file.now }
+    ensures fault { result_err result ≡ shape_fault total file.now }
+    ensures file { IfOk result (λ f. f.bytes.now ≡ file.now) }
 {
     check(total >= FIRST_BODY, FileFaultKind::WrongLength, total)?;
-    check_counts(file)?;
-    check_contents(file)?;
-    check_rules(file, total)?;
-    check_ends(file)
+    let counted = CountedFile::read(file);
+    counted.check_counts()?;
+    counted.check_contents()?;
+    counted.check_rules(total)?;
+    counted.check_ends()?;
+    Ok(counted)
 }

@@ -10,8 +10,7 @@ ghost use Rattle.plan.specs.Writing.{lent, plan_with, site_plan, texts_fault, Ba
 use crate::bytes::known_bytes;
 use crate::fault::{FileFault, FileFaultKind, PlanFault, WriteFault};
 use crate::layout::{
-    BINDING_BYTES, BINDINGS, FIRST_BODY, MOST_RULES, MOST_TEXT_BYTES, PLACE_BYTES, PLACES,
-    RULE_COUNT, RULES,
+    BINDING_BYTES, BINDINGS, FIRST_BODY, MOST_RULES, PLACE_BYTES, PLACES, RULE_COUNT, RULES,
 };
 use crate::shape::{binding_byte, check};
 use crate::text::check_text;
@@ -19,6 +18,7 @@ use conditions::word::Word;
 use output::put;
 use routing::binding::Binding;
 use routing::site::SiteTable;
+use rule_text::read::MOST_BYTES;
 
 // The length of the file whose rules begin at `start`, or the first limit that the texts do not keep.
 fn file_length(start: usize, texts: &[&[u8]]) -> Result<usize, FileFault>
@@ -33,11 +33,7 @@ fn file_length(start: usize, texts: &[&[u8]]) -> Result<usize, FileFault>
     )?;
     let mut byte = start;
     for text in texts {
-        check(
-            text.len() <= MOST_TEXT_BYTES,
-            FileFaultKind::OverLimit,
-            byte,
-        )?;
+        check(text.len() <= MOST_BYTES, FileFaultKind::OverLimit, byte)?;
         byte += 2 + text.len();
     }
     Ok(byte)

@@ -13,6 +13,9 @@ pub const MOST_PLACES: usize = 256;
 
 pub const MOST_BINDINGS: usize = 4096;
 
+// The marks of a place: those from 0 to 31.
+pub const MARKS: u8 = 32;
+
 pub trait Network {
     // The sets of settings that the bindings carry.
     type Set: ConditionSet;
@@ -54,5 +57,5 @@ pub trait Network {
 pub fn has_mark<N: Network>(net: &N, place: usize, k: u8) -> bool
     ensures { result ≡ (nat_lt k 32 && bit (slice_index (N.meaning net.now).marks place) k) }
 {
-    k < 32 && net.marks(place).unwrap_or(0) >> k & 1 == 1
+    k < MARKS && net.marks(place).unwrap_or(0) >> k & 1 == 1
 }

@@ -10,7 +10,8 @@ use crate::reader::Reader;
 use crate::table::Table;
 use conditions::set::ConditionSet;
 
-const MOST_BYTES: usize = 200;
+// The most bytes of a text.
+pub const MOST_BYTES: usize = 200;
 
 const MOST_LEVELS: u32 = 32;
 

@@ -5,8 +5,7 @@ ghost use Rattle.rule_text.specs.Words.{named_word, number_below, number_from, n
 
 use crate::fault::FaultKind;
 use crate::word::{Prefix, Quantifier, Word};
-
-const MARKS: u32 = 32;
+use routing::network::MARKS;
 
 // The value of the digits, or 255 where it is more; absent where one of them is no digit.
 fn value(digits: &[u8]) -> Option<u8>
@@ -96,7 +95,7 @@ pub(crate) fn read_word(bytes: &[u8], conditions: u32) -> Result<Word, FaultKind
 {
     match bytes {
         [b] => one_byte(*b).ok_or(FaultKind::UnknownWord),
-        [b'm', digits @ ..] => number_below(digits, MARKS).map(Word::Mark),
+        [b'm', digits @ ..] => number_below(digits, u32::from(MARKS)).map(Word::Mark),
         [b'c', digits @ ..] => number_below(digits, conditions).map(Word::Condition),
         _ => named(bytes).ok_or(FaultKind::UnknownWord),
     }

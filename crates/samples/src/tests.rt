@@ -9,7 +9,7 @@ use std::test::Fail;
 use tables::row::Row;
 use verdicts::entries::judge_entries;
 use verdicts::site::judge_site;
-use verdicts::verdict::Verdict;
+use verdicts::verdict::{Judgement, Verdict};
 
 fn check_verdict(
     rt: &impl Abort,
@@ -22,8 +22,7 @@ fn check_verdict(
     let mut main = [Word(0); 96];
     let mut spare = [Word(0); 6];
     let judgement = judge_site(marks, records, table, &mut main, &mut spare)?;
-    assert_eq!(rt; judgement.verdict, verdict);
-    assert_eq!(rt; judgement.rounds, rounds);
+    assert_eq!(rt; judgement, Judgement { rounds, verdict });
     Ok(())
 }
 
@@ -53,8 +52,8 @@ fn no_places(rt: HostRuntime) -> Result<(), Fail> {
     let table = networks::AF_M1.map(Row::from);
     let net: Empty<Word> = Empty::default();
     let judgement = judge_entries(&net, &table, &mut [], &mut [])?;
-    assert_eq!(rt; judgement.verdict, Verdict::Holds);
-    assert_eq!(rt; judgement.rounds, 0);
+    let verdict = Verdict::Holds;
+    assert_eq!(rt; judgement, Judgement { rounds: 0, verdict });
     Ok(())
 }
 

@@ -3,11 +3,10 @@ ghost use Rattle.std.specs.Prelude.{◌≡◌, true, false, MatchOption};
 ghost use Rattle.tables.specs.Tables.{accepted, coded, row_fits};
 
 use crate::row::{Operation, Row};
+use routing::network::MARKS;
 
 // The most rows of a table.
 pub const MOST_ROWS: usize = 32;
-
-const MARKS: u8 = 32;
 
 // The operation of a row that stands at number `at` of a table over so many conditions; absent where the row does not fit.
 pub fn read_row(row: Row, at: usize, conditions: u32) -> Option<Operation>

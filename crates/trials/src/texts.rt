@@ -9,12 +9,10 @@ use generator::text::{Form, Spelled};
 use judging::judge::judge;
 use routing::network::Network;
 use rule_text::fault::FaultKind;
-use rule_text::read::read_rule;
+use rule_text::read::{MOST_BYTES, read_rule};
 use std::alloc::AllocError;
 use tables::row::Row;
 use tables::table::MOST_ROWS;
-
-const MOST_BYTES: usize = 200;
 
 // The sets of 32 rows at ten places.
 const MAIN: usize = 320;

@@ -8,7 +8,7 @@ pub enum Verdict {
 }
 
 // A verdict with the rounds that judging took.
-#[derive(Clone, Copy)]
+#[derive(Clone, Copy, Debug, PartialEq, Eq)]
 pub struct Judgement {
     pub rounds: usize,
     pub verdict: Verdict,

@@ -39,30 +39,30 @@ impl<'a> Network for PlanFile<'a> {
     }
 
     fn places(&self) -> usize {
-        self.file.places
+        self.file.counted.places
     }
 
     fn bindings(&self) -> usize {
-        self.file.bindings
+        self.file.counted.bindings
     }
 
     fn marks(&self, place: usize) -> Option<u32> {
-        if place < self.file.places {
-            Some(u32_at(self.file.bytes, FIRST_BODY + PLACE_BYTES * place))
+        if place < self.file.counted.places {
+            Some(u32_at(self.file.counted.bytes, FIRST_BODY + PLACE_BYTES * place))
         } else {
             None
         }
     }
 
     fn binding(&self, number: usize) -> Option<Binding<Word>> {
-        if number >= self.file.bindings {
+        if number >= self.file.counted.bindings {
             return None;
         }
-        let byte = binding_byte(self.file.places, number);
+        let byte = binding_byte(self.file.counted.places, number);
         Some(Binding {
-            from: u16_at(self.file.bytes, byte),
-            to: u16_at(self.file.bytes, byte + 2),
-            set: Word(u64_at(self.file.bytes, byte + 4)),
+            from: u16_at(self.file.counted.bytes, byte),
+            to: u16_at(self.file.counted.bytes, byte + 2),
+            set: Word(u64_at(self.file.counted.bytes, byte + 4)),
         })
     }
 }

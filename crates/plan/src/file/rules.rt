@@ -15,7 +15,7 @@ impl<'a> PlanFile<'a> {
     pub fn rules(&self) -> usize
         ensures { result ≡ length (file_plan self.now).texts }
     {
-        self.file.rules
+        self.file.counted.rules
     }
 
     // The text of a rule; absent beyond the last rule.

@@ -10,50 +10,38 @@ ghost use Rattle.plan.specs.Shape.{shape_fault};
 
 use crate::fault::{FileFault, PlanFault};
 use crate::fields::{text_of, u16_at};
-use crate::layout::{BINDING_COUNT, PLACE_COUNT, RULE_COUNT};
-use crate::shape::{binding_byte, check_shape};
+use crate::shape::{CountedFile, binding_byte, check_shape};
 use crate::text::check_text;
 
 // The bytes that the caller lends, and their counts.
 #[derive(Clone, Copy)]
 pub(crate) struct ShapedFile<'a> {
-    pub(crate) bytes: &'a [u8],
-    pub(crate) places: usize,
-    pub(crate) bindings: usize,
-    pub(crate) rules: usize,
-    ghost shaped: { shape_fault (length bytes.now) bytes.now ≡ None },
-    ghost places_are: { places ≡ place_count bytes.now },
-    ghost bindings_are: { bindings ≡ binding_count bytes.now },
-    ghost rules_are: { rules ≡ rule_count bytes.now },
-    ghost few_places: { places ≤ 256 },
-    ghost few_bindings: { bindings ≤ 4096 },
-    ghost room: { rules_start places bindings ≤ length bytes.now },
-    ghost ends: { all_inside (place_count bytes.now)
-        (listed (binding_count bytes.now) (binding_at bytes.now)) ≡ true },
+    pub(crate) counted: CountedFile<'a>,
+    ghost shaped: { shape_fault (length counted.bytes.now) counted.bytes.now ≡ None },
+    ghost few_places: { counted.places ≤ 256 },
+    ghost few_bindings: { counted.bindings ≤ 4096 },
+    ghost room: { rules_start counted.places counted.bindings ≤ length counted.bytes.now },
+    ghost ends: { all_inside (place_count counted.bytes.now)
+        (listed (binding_count counted.bytes.now) (binding_at counted.bytes.now)) ≡ true },
 }
 
 impl<'a> ShapedFile<'a> {
     pub(crate) fn open(bytes: &'a [u8]) -> Result<ShapedFile<'a>, FileFault>
-        ensures { MatchResult result (λ f. f.bytes.now ≡ bytes.now)
+        ensures { MatchResult result (λ f. f.counted.bytes.now ≡ bytes.now)
             (λ e. shape_fault (length bytes.now) bytes.now ≡ Some e) }
     {
-        check_shape(bytes, bytes.len())?;
-        Ok(ShapedFile {
-            bytes,
-            places: usize::from(u16_at(bytes, PLACE_COUNT)),
-            bindings: usize::from(u16_at(bytes, BINDING_COUNT)),
-            rules: usize::from(u16_at(bytes, RULE_COUNT)),
-        })
+        let counted = check_shape(bytes, bytes.len())?;
+        Ok(ShapedFile { counted })
     }
 
     // The byte where a rule begins.
     fn rule_byte(&self, rule: usize) -> usize
-        requires { rule ≤ rule_count self.now.bytes.now }
-        ensures { result ≡ rule_byte self.now.bytes.now rule }
+        requires { rule ≤ rule_count self.now.counted.bytes.now }
+        ensures { result ≡ rule_byte self.now.counted.bytes.now rule }
     {
-        let mut byte = binding_byte(self.places, self.bindings);
+        let mut byte = binding_byte(self.counted.places, self.counted.bindings);
         for earlier in 0..rule {
-            byte += 2 + usize::from(u16_at(self.bytes, byte));
+            byte += 2 + usize::from(u16_at(self.counted.bytes, byte));
         }
         byte
     }
@@ -61,22 +49,22 @@ impl<'a> ShapedFile<'a> {
     // The text of a rule; absent beyond the last rule.
     pub(crate) fn text(&self, rule: usize) -> Option<&'a [u8]>
         ensures { option_map (λ t. t.now) result
-            ≡ slice_get (listed (rule_count self.now.bytes.now) (text_at self.now.bytes.now)) rule }
+            ≡ slice_get (listed (rule_count self.now.counted.bytes.now) (text_at self.now.counted.bytes.now)) rule }
     {
-        if rule >= self.rules {
+        if rule >= self.counted.rules {
             return None;
         }
-        Some(text_of(self.bytes, self.rule_byte(rule)))
+        Some(text_of(self.counted.bytes, self.rule_byte(rule)))
     }
 
     // Tests that the texts are rules.
     pub(crate) fn check_texts(&self) -> Result<(), PlanFault>
-        ensures { MatchResult result (λ _. TextsRead self.now.bytes.now)
-            (λ e. Refused self.now.bytes.now e) }
+        ensures { MatchResult result (λ _. TextsRead self.now.counted.bytes.now)
+            (λ e. Refused self.now.counted.bytes.now e) }
     {
-        let mut byte = binding_byte(self.places, self.bindings);
-        for rule in 0..self.rules {
-            let text = text_of(self.bytes, byte);
+        let mut byte = binding_byte(self.counted.places, self.counted.bindings);
+        for rule in 0..self.counted.rules {
+            let text = text_of(self.counted.bytes, byte);
             check_text(rule, text)?;
             byte += 2 + text.len();
         }

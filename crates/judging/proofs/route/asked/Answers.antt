@@ -1,19 +1,20 @@
-use Rattle.std.proofs.Common.{rules, ◌≡◌, ℕ, ◌<◌, true, false, length, get_or, sym, ap, ◌∙◌, arith}
-use Rattle.std.proofs.lemmas.Bool.{true≢false}
-use Rattle.std.proofs.lemmas.Option.{MatchOption-at_none}
+use Rattle.std.proofs.Common.{rules, ◌≡◌, ℕ, ◌<◌, true, false, length, get_or, sym, refl, ap, ◌∙◌}
+use Rattle.std.proofs.lemmas.Bool.{true≢false, ltb-true}
+use Rattle.std.proofs.lemmas.Option.{MatchOption-at_none, get_or_from_slice_get, slice_get_read}
 use Rattle.routing.specs.Net.{Net}
 use Rattle.tables.specs.Tables.{accepted, row_fits, no_row}
 use Rattle.tables.proofs.Fits.{accepted_row}
 use Rattle.judging.proofs.route.asked.Goals as goal
 
 -- Each row of an accepted table fits.
-pub returns-in_default-2-clause-refusal : goal.returns-in_default-2-clause-refusal
-returns-in_default-2-clause-refusal g c =
+pub returns-in_default-read_row-2-clause-refusal : goal.returns-in_default-read_row-2-clause-refusal
+returns-in_default-read_row-2-clause-refusal g c =
     let N : Net = g.N.Network.meaning c.args.net.now in
     let rows = c.args.table.now in
     let row = c.args.row in
     let taken : accepted N.conditions rows ≡ true = search rules in
-    let inside : row < length rows = omega arith in
+    let inside : row < length rows = ltb-true row (length rows) (sym c.in-Some.ensures.lookup.0) in
     let fits : row_fits N.conditions row (get_or rows row no_row) ≡ true = accepted_row N.conditions rows taken row inside in
-    let fails : row_fits c.conditions-conditions.result row (get_or rows row no_row) ≡ false = MatchOption-at_none _ _ c.in_default.is c.read_row.ensures in
-    absurd (true≢false (sym fits ∙ ap (λ (k : ℕ). row_fits k row (get_or rows row no_row)) (sym c.conditions-conditions.ensures) ∙ fails))
+    let fails : row_fits c.conditions-conditions.result row c.in-Some.found.now ≡ false = MatchOption-at_none _ _ c.in_default-read_row.is c.read_row.ensures in
+    let is : get_or rows row no_row ≡ c.in-Some.found.now = get_or_from_slice_get rows row c.in-Some.found.now no_row (slice_get_read rows (length rows) row _ refl inside c.in-Some.ensures.lookup.1) in
+    absurd (true≢false (sym fits ∙ ap (λ (k : ℕ). row_fits k row (get_or rows row no_row)) (sym c.conditions-conditions.ensures) ∙ ap (row_fits c.conditions-conditions.result row) is ∙ fails))

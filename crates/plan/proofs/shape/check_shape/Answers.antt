@@ -1,4 +1,4 @@
-use Rattle.std.proofs.Common.{◌≡◌, ℕ, ◌<◌, ◌≤◌, List, length, None, sym, inl, inr, arith}
+use Rattle.std.proofs.Common.{◌≡◌, ℕ, ◌<◌, ◌≤◌, List, length, None, sym, subst, inl, inr, arith}
 use Rattle.std.proofs.lemmas.Bool.{cases_lt}
 use Rattle.std.specs.Option.{option_or}
 use Rattle.plan.specs.Contents.{binding_count, place_count, rule_count}
@@ -19,6 +19,10 @@ bindings_kept total file front counts_none rules =
 
 pub check_ends-requires : goal.check_ends-requires
 check_ends-requires c =
-    record {
-      long = bindings_kept c.args.total c.args.file.now c.requires.front (sym c.in_ok-check_counts.ensures) (sym c.in_ok-check_rules.ensures);
-    }
+    let counted = c.read-counted.result in
+    let file = counted.bytes.now in
+    let places = counted.places_are in
+    let bindings = counted.bindings_are in
+    let front = subst (λ (bs : List ℕ). length bs < longest → length bs ≡ c.args.total) (sym c.read-counted.ensures) c.requires.front in
+    let kept = bindings_kept c.args.total file front (sym c.in_ok-check_counts.ensures) (sym c.in_ok-check_rules.ensures) in
+    omega arith

@@ -6,7 +6,8 @@ use Rattle.plan.proofs.file.PlanFile.open.Goals as goal
 pub returns : goal.returns
 returns c =
     let f = c.in_ok-file.file in
+    let file = f.counted.bytes.now in
     let lent = c.in_ok-file.ensures in
     let fits = subst (λ (bs : List ℕ). (i : ℕ) → Fits w8 (get_or bs i 0)) (sym lent) c.type_inv.bytes in
-    let plan = file_is_plan f.bytes.now fits (shape_passes _ f.bytes.now f.shaped) c.in_ok-check_texts.ensures in
+    let plan = file_is_plan file fits (shape_passes _ file f.shaped) c.in_ok-check_texts.ensures in
     (lent, (plan.0, plan.1 ∙ lent))

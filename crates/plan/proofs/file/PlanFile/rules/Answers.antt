@@ -5,7 +5,7 @@ use Rattle.plan.proofs.file.PlanFile.rules.Goals as goal
 
 pub returns : goal.returns
 returns c =
-    let file = c.args.self.now.file.bytes.now in
-    let are = c.args.self.now.file.rules_are in
+    let file = c.args.self.now.file.counted.bytes.now in
+    let are = c.args.self.now.file.counted.rules_are in
     let len = length_listed (rule_count file) (text_at file) in
     omega arith

@@ -27,6 +27,6 @@ is_read file text i (Err e) below same read refused =
 
 pub unwrap-requires : goal.unwrap-requires
 unwrap-requires c =
-    let file = c.args.self.now.file.bytes.now in
+    let file = c.args.self.now.file.counted.bytes.now in
     let at = listed_at (rule_count file) (text_at file) _ c.in_ok-text.text.now (sym c.in_ok-text.ensures) in
     is_read file c.in_ok-text.text.now _ c.read_rule.result at.0 at.1 c.args.self.now.read c.read_rule.ensures.answer

@@ -12,8 +12,8 @@ use Rattle.plan.proofs.file.rules.rule_text.Goals as goal
 
 -- What was opened is the file.
 opened : (r : Result ShapedFile FileFault) (Q : FileFault → Type 0) (file : List ℕ) (f : ShapedFile)
-    → MatchResult r (λ g. g.bytes.now ≡ file) Q → Some f ≡ result_ok r → f.bytes.now ≡ file
-opened (Ok g) Q file f is e = let same : f ≡ g = cc in ap (λ (x : ShapedFile). x.bytes.now) same ∙ is
+    → MatchResult r (λ g. g.counted.bytes.now ≡ file) Q → Some f ≡ result_ok r → f.counted.bytes.now ≡ file
+opened (Ok g) Q file f is e = let same : f ≡ g = cc in ap (λ (x : ShapedFile). x.counted.bytes.now) same ∙ is
 opened (Err x) Q file f is e = let z : ◌≡◌ {A = ℕ} 0 1 = cc in cc
 
 -- Without a fault the text is that of the plan.
@@ -33,4 +33,4 @@ returns c =
     let f = c.in_ok-shaped.shaped in
     let lent = opened c.open.result _ c.args.file.now f c.open.ensures c.in_ok-shaped.ensures.value in
     c.text.ensures
-    ∙ (sym (shaped_text_is f.bytes.now c.args.rule f.shaped) ∙ ap (λ (file : List ℕ). shaped_text file c.args.rule) lent)
+    ∙ (sym (shaped_text_is f.counted.bytes.now c.args.rule f.shaped) ∙ ap (λ (file : List ℕ). shaped_text file c.args.rule) lent)

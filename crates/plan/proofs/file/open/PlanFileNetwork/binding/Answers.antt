@@ -10,8 +10,8 @@ use Rattle.plan.proofs.file.open.PlanFileNetwork.binding.Goals as goal
 
 pub returns-then-number-self : goal.returns-then-number-self
 returns-then-number-self c =
-    let file = c.args.self.now.file.bytes.now in
-    let are = c.args.self.now.file.bindings_are in
+    let file = c.args.self.now.file.counted.bytes.now in
+    let are = c.args.self.now.file.counted.bindings_are in
     let links = length_links word_holds (listed (binding_count file) (binding_at file)) in
     let len = length_listed (binding_count file) (binding_at file) in
     record { value = omega arith; ends = tt }
@@ -28,9 +28,9 @@ bound file i from to set byte at is_from is_to is_set =
 
 pub returns : goal.returns
 returns c =
-    let file = c.args.self.now.file.bytes.now in
-    let are = c.args.self.now.file.bindings_are in
-    let places = c.args.self.now.file.places_are in
+    let file = c.args.self.now.file.counted.bytes.now in
+    let are = c.args.self.now.file.counted.bindings_are in
+    let places = c.args.self.now.file.counted.places_are in
     let is = bound file c.args.number c.u16_at.result c.u16_at-2.result c.u64_at.result c.binding_byte-byte.result
     (omega arith) c.u16_at.ensures c.u16_at-2.ensures c.u64_at.ensures in
     let at : slice_get (listed (binding_count file) (binding_at file)) c.args.number ≡ Some (record { from = c.u16_at.result; to = c.u16_at-2.result; set = record { 0 = c.u64_at.result } }) =

@@ -7,8 +7,8 @@ use Rattle.plan.proofs.file.open.PlanFileNetwork.bindings.Goals as goal
 
 pub returns : goal.returns
 returns c =
-    let file = c.args.self.now.file.bytes.now in
-    let are = c.args.self.now.file.bindings_are in
+    let file = c.args.self.now.file.counted.bytes.now in
+    let are = c.args.self.now.file.counted.bindings_are in
     let links = length_links word_holds (listed (binding_count file) (binding_at file)) in
     let len = length_listed (binding_count file) (binding_at file) in
     omega arith

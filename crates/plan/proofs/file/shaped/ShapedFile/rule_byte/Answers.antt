@@ -6,8 +6,8 @@ use Rattle.plan.proofs.file.shaped.ShapedFile.rule_byte.Goals as goal
 pub loop-earlier-init : goal.loop-earlier-init
 unfolding rule_byte
 loop-earlier-init c =
-    let places = c.args.self.now.places_are in
-    let bindings = c.args.self.now.bindings_are in
+    let places = c.args.self.now.counted.places_are in
+    let bindings = c.args.self.now.counted.bindings_are in
     omega arith
 
 pub u16_at-requires : goal.u16_at-requires
@@ -20,4 +20,4 @@ overflow_add-byte-in-loop-earlier c =
 
 pub loop-earlier-preserved : goal.loop-earlier-preserved
 loop-earlier-preserved c =
-    rule_byte_next c.args.self.now.bytes.now c.loop-earlier.earlier c.loop-earlier.byte _ c.loop-earlier.invariant (omega arith)
+    rule_byte_next c.args.self.now.counted.bytes.now c.loop-earlier.earlier c.loop-earlier.byte _ c.loop-earlier.invariant (omega arith)

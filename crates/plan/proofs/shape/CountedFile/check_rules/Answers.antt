@@ -6,17 +6,17 @@ use Rattle.plan.specs.Contents.{rule_byte, rule_count}
 use Rattle.plan.specs.Shape.{lengths_fault, end_fault, faulty}
 use Rattle.plan.proofs.Firsts.{err_of, lengths_stop, lengths_go, lengths_none, or_end}
 use Rattle.plan.proofs.Shaped.{length_at_none, rule_byte_next}
-use Rattle.plan.proofs.shape.check_rules.Goals as goal
+use Rattle.plan.proofs.shape.CountedFile.check_rules.Goals as goal
 
 pub loop-rule-init : goal.loop-rule-init
 unfolding rule_byte
 loop-rule-init c =
-    let n : rule_count c.args.file.now ≡ rule_count c.args.file.now - 0 = omega arith in
-    (omega arith, omega arith, ap (lengths_fault c.args.total c.args.file.now 0) n)
+    let n : rule_count c.args.self.now.bytes.now ≡ rule_count c.args.self.now.bytes.now - 0 = omega arith in
+    (omega arith, omega arith, ap (lengths_fault c.args.total c.args.self.now.bytes.now 0) n)
 
 pub returns-in_err-check_length : goal.returns-in_err-check_length
 returns-in_err-check_length c =
-    let file = c.args.file.now in
+    let file = c.args.self.now.bytes.now in
     let stops = c.loop-rule.invariant.2
     ∙ lengths_stop c.args.total file c.loop-rule.rule (rule_count file) c.loop-rule.byte _
     (omega arith) c.loop-rule.invariant.0 c.in_err-check_length.ensures refl in
@@ -25,10 +25,10 @@ returns-in_err-check_length c =
 
 pub loop-rule-preserved : goal.loop-rule-preserved
 loop-rule-preserved c =
-    let file = c.args.file.now in
+    let file = c.args.self.now.bytes.now in
     let fits = length_at_none c.args.total c.loop-rule.byte file (sym c.in_ok-check_length.ensures) in
     let short = fits.1 in (
-      rule_byte_next file c.loop-rule.rule c.loop-rule.byte c.from-in-loop-rule.result c.loop-rule.invariant.0 (omega arith),
+      rule_byte_next file c.loop-rule.rule c.loop-rule.byte c.from.result c.loop-rule.invariant.0 (omega arith),
       omega arith,
       c.loop-rule.invariant.2
           ∙ lengths_go c.args.total file c.loop-rule.rule (rule_count file) c.loop-rule.byte _
@@ -49,7 +49,7 @@ at_end file i byte last at = ap (rule_byte file) (sym last) ∙ sym at
 
 pub returns : goal.returns
 returns c =
-    let file = c.args.file.now in
+    let file = c.args.self.now.bytes.now in
     let total = c.args.total in
     let at = at_end file c.loop-rule.rule c.loop-rule.byte (omega arith) c.loop-rule.invariant.0 in
     c.check.ensures
