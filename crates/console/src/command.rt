@@ -2,6 +2,9 @@
 use crate::problem::{Problem, Source};
 use std::env::Args;
 
+#[cfg(test)]
+mod tests;
+
 #[derive(Drop)]
 pub(crate) struct Request {
     pub(crate) source: Source,

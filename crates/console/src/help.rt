@@ -1,3 +1,6 @@
+#[cfg(test)]
+mod tests;
+
 // What --help prints: a screen of 24 lines.
 pub(crate) const HELP: &str = "Usage: routecheck [--explain] [PLAN]
 Judges the rules of a plan at every entry of its network, on routes of every

@@ -6,6 +6,9 @@ use plan::file::rules::rule_text;
 use rule_text::fault::{Fault, FaultKind};
 use std::fmt;
 
+#[cfg(test)]
+mod tests;
+
 // A plan that is refused: where it is from, the front of its file, and its fault.
 #[derive(Drop)]
 pub(crate) struct RefusedPlan {

@@ -1,5 +1,5 @@
-// Judges the rules of a plan, as routecheck_plan does. A crate has one stored run, with one command line and one input:
-// here no words, and a plan from standard input.
+// Judges the rules of a plan, as routecheck does. A crate has one stored run, with one command line and one input:
+// here no words, and the trial plan from standard input.
 #![tactic(auto)]
 
 use console::run::run;

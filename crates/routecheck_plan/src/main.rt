@@ -1,9 +1,0 @@
-// Judges the rules of the plan that the command line names.
-#![tactic(auto)]
-
-use console::run::run;
-use std::process::ExitCode;
-
-fn main(rt: HostRuntime) -> ExitCode {
-    run(&rt)
-}

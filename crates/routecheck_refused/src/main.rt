@@ -1,0 +1,10 @@
+// Judges the rules of a plan, as routecheck does. A crate has one stored run, with one command line and one input:
+// here no words, and the trial plan without its last byte, which is refused with exit status 1.
+#![tactic(auto)]
+
+use console::run::run;
+use std::process::ExitCode;
+
+fn main(rt: HostRuntime) -> ExitCode {
+    run(&rt)
+}

@@ -1,0 +1,164 @@
+// An example of the library: judges two built-in trial networks of word sets and prints what it found, a line for each rule,
+// and below a rule that breaks the route that shows it.
+#![tactic(auto)]
+
+use conditions::set::ConditionSet;
+use conditions::word::Word;
+use judging::route::route;
+use judging::shown::{Ending, RouteStep, Shown};
+use routing::binding::Binding;
+use routing::refusal::Refusal;
+use routing::site::SiteTable;
+use samples::networks;
+use std::io;
+use tables::row::{Operation, Row};
+use tables::table::read_row;
+use verdicts::entries::judge_entries;
+use verdicts::verdict::{Judgement, Verdict};
+
+// A route from an entry: its steps, and how it ends.
+#[derive(Clone, Copy)]
+struct Route<'a> {
+    steps: &'a [RouteStep],
+    ending: Ending,
+}
+
+// What is found of a rule: the judgement, and a route that breaks the rule, if one is shown.
+#[derive(Clone, Copy)]
+struct Found<'a> {
+    judgement: Judgement,
+    route: Option<Route<'a>>,
+}
+
+// The operation of a row of a table.
+fn operation(table: &[Row], row: usize) -> Option<Operation> {
+    read_row(*table.get(row)?, row, Word::conditions())
+}
+
+// The row whose route breaks an A form: the rule is "not p", and p is about a step or a route.
+fn breaking_row(table: &[Row]) -> Option<usize> {
+    let Operation::Not(p) = operation(table, table.len().checked_sub(1)?)? else {
+        return None;
+    };
+    let row = usize::from(p);
+    match operation(table, row)? {
+        Operation::Next(_) | Operation::Until(_, _) | Operation::Always(_) => Some(row),
+        _ => None,
+    }
+}
+
+// A route that breaks a rule at an entry, written to `steps`.
+fn breaking_route<'a>(
+    site: &SiteTable<'_, Word>,
+    table: &[Row],
+    at: RouteStep,
+    main: &mut [Word],
+    spare: &mut [Word],
+    steps: &'a mut [RouteStep],
+) -> Option<Route<'a>> {
+    let row = breaking_row(table)?;
+    let Shown { count, ending } = route(site, table, row, at, main, spare, steps).ok()?;
+    let steps = steps.get(..count)?;
+    Some(Route { steps, ending })
+}
+
+// Judges a rule at the entries of a network, and looks for a route that breaks it.
+fn find<'a>(
+    site: &SiteTable<'_, Word>,
+    table: &[Row],
+    steps: &'a mut [RouteStep],
+) -> Result<Found<'a>, Refusal> {
+    let mut main = [Word(0); 96];
+    let mut spare = [Word(0); 6];
+    let judgement = judge_entries(site, table, &mut main, &mut spare)?;
+    let route = match judgement.verdict {
+        Verdict::Holds => None,
+        Verdict::Breaks(place, setting) => {
+            let at = RouteStep { place, setting };
+            breaking_route(site, table, at, &mut main, &mut spare, steps)
+        }
+    };
+    Ok(Found { judgement, route })
+}
+
+// Prints the places and settings hop by hop, and how the route ends.
+fn print_route(rt: &impl Print, route: Route<'_>) -> io::Result<()> {
+    for (number, RouteStep { place, setting }) in route.steps.iter().enumerate() {
+        let front = if number == 0 {
+            "  an order comes in at"
+        } else {
+            ", goes to"
+        };
+        print!(rt; "{front} place {place} under setting {setting}")?;
+    }
+    match route.ending {
+        Ending::Reaches => println!(rt; ", and breaks the rule there"),
+        Ending::Rests => println!(rt; ", and rests there"),
+        Ending::Returns(number) => println!(rt;
+            ", and goes round for ever from its position {number} (counted from 0)"
+        ),
+    }
+}
+
+// Prints the verdict on a rule: `N holds ROUNDS` or `N breaks PLACE SETTING ROUNDS`.
+fn print_found(rt: &impl Print, number: usize, found: Found<'_>) -> io::Result<()> {
+    let rounds = found.judgement.rounds;
+    match found.judgement.verdict {
+        Verdict::Holds => println!(rt; "{number} holds {rounds}")?,
+        Verdict::Breaks(place, setting) => println!(rt;
+            "{number} breaks {place} {setting} {rounds}"
+        )?,
+    }
+    match found.route {
+        Some(route) => print_route(rt, route),
+        None => Ok(()),
+    }
+}
+
+fn print_refusal(rt: &impl Print, refusal: Refusal) -> io::Result<()> {
+    println!(rt; "refused {}", refusal.number())
+}
+
+// Prints what is found of each rule of a network, or `refused NUMBER`.
+fn print_network(
+    rt: &impl Print,
+    marks: &[u32],
+    records: &[Binding<Word>],
+    rules: &[&[Row]],
+) -> io::Result<()> {
+    let site = match SiteTable::open(marks, records) {
+        Ok(site) => site,
+        Err(refusal) => return print_refusal(rt, refusal),
+    };
+    for (number, table) in rules.iter().enumerate() {
+        let mut steps = [RouteStep {
+            place: 0,
+            setting: 0,
+        }; 4];
+        match find(&site, table, &mut steps) {
+            Ok(found) => print_found(rt, number, found)?,
+            Err(refusal) => print_refusal(rt, refusal)?,
+        }
+    }
+    Ok(())
+}
+
+fn main(rt: HostRuntime) -> io::Result<()> {
+    println!(rt;
+        "Network P: 0 (mark 0) to 1 (mark 1) while c0 is on. Rules: 0 AF m1, 1 EF m1 | !c0"
+    )?;
+    let rules: [&[Row]; 2] = [
+        &networks::AF_M1.map(Row::from),
+        &networks::EF_M1_OR_NOT_C0.map(Row::from),
+    ];
+    print_network(&rt, &networks::p_marks(), &networks::p_bindings(), &rules)?;
+    println!(rt;
+        "Network L: 0 (mark 0) to 1 always, 1 to 2 (mark 1) while c0 is on, 1 to 0 while it is off. Rules: 0 AF m1, 1 AG EF m1, 2 EF m1"
+    )?;
+    let rules: [&[Row]; 3] = [
+        &networks::AF_M1.map(Row::from),
+        &networks::AG_EF_M1.map(Row::from),
+        &networks::EF_M1.map(Row::from),
+    ];
+    print_network(&rt, &networks::l_marks(), &networks::l_bindings(), &rules)
+}
