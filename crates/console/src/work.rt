@@ -5,18 +5,14 @@ use conditions::word::Word;
 use judging::route::route;
 use judging::shown::{RouteStep, Shown};
 use plan::file::PlanFile;
+use report::rule::{MAIN_ROOM, SPARE_ROOM};
 use routing::network::MOST_PLACES;
 use routing::refusal::Refusal;
 use std::alloc::{AllocError, Global};
-use tables::table::MOST_ROWS;
 use verdicts::entries::judge_entries;
 use verdicts::verdict::Judgement;
 
-// A set for each row and place, two for each place, and one step more than places.
-const MAIN_ROOM: usize = MOST_ROWS * MOST_PLACES;
-
-const SPARE_ROOM: usize = 2 * MOST_PLACES;
-
+// One step more than places.
 const STEPS_ROOM: usize = MOST_PLACES + 1;
 
 #[derive(Drop)]

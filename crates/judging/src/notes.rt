@@ -30,7 +30,7 @@ fn note_entered<N: Network>(net: &N, sets: &[N::Set], round: usize, notes: &mut 
         ≡ noted_at (note_of notes.old t)
         (entering (N.meaning net.now) (covers N.Set.ConditionSet.holds sets.now) t) round }
 {
-    // By number, since a note is written at the place's number.
+    // By number, by which the entry of a place is asked and its note is written.
     for place in 0..sets.len() {
         if notes[place].is_none() {
             if let Some(setting) = entry_at(net, sets, place) {

@@ -22,7 +22,7 @@ fn write_mark<N: Network>(net: &N, k: u8, part: &mut [N::Set])
         ≡ (bit (slice_index (N.meaning net.now).marks x.place) k && nat_lt x.setting (2 ^ N.Set.ConditionSet.count)) }
 {
     let (all, none) = (N::Set::all(), N::Set::none());
-    // By number, as a network answers the marks of a place.
+    // By number, as a network answers the marks of a place, and each set is written anew.
     for place in 0..part.len() {
         part[place] = if has_mark(net, place, k) { all } else { none };
     }

@@ -1,4 +1,4 @@
-// Where the fields of a plan file stand, and the limits of its rules.
+// Where the fields of a plan file stand.
 
 // The bytes of the three counts.
 pub(crate) const PLACE_COUNT: usize = 2;
@@ -21,5 +21,3 @@ pub(crate) const FIRST_BODY: usize = 24;
 pub(crate) const PLACE_BYTES: usize = 4;
 
 pub(crate) const BINDING_BYTES: usize = 12;
-
-pub(crate) const MOST_RULES: usize = 8;

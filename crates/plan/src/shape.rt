@@ -20,9 +20,10 @@ ghost use Rattle.plan.specs.Shape.{
 
 use crate::fault::{FileFault, FileFaultKind};
 use crate::fields::{u16_at, u32_at};
+use crate::file::rules::MOST_RULES;
 use crate::layout::{
-    BINDING_BYTES, BINDING_COUNT, BINDINGS, FIRST_BODY, MOST_RULES, PLACE_BYTES, PLACE_COUNT,
-    PLACES, RULE_COUNT, RULES,
+    BINDING_BYTES, BINDING_COUNT, BINDINGS, FIRST_BODY, PLACE_BYTES, PLACE_COUNT, PLACES,
+    RULE_COUNT, RULES,
 };
 use routing::network::{MOST_BINDINGS, MOST_PLACES};
 use rule_text::read::MOST_BYTES;
@@ -76,16 +77,6 @@ fn check_length(file: &[u8], byte: usize, total: usize) -> Result<(), FileFault>
 {
     check(total >= byte + 2, FileFaultKind::WrongLength, total)?;
     check_limit(file, byte, MOST_BYTES)
-}
-
-// 8 where the field of two bytes is none of the places.
-fn check_end(file: &[u8], at: usize, places: usize) -> Result<(), FileFault>
-    requires within { at + 2 ≤ length file.now }
-    requires counted { places ≡ place_count file.now }
-    ensures { result_err result ≡ no_place at file.now }
-{
-    let end = usize::from(u16_at(file, at));
-    check(end < places, FileFaultKind::NoPlace, at)
 }
 
 // A file that is long enough for its contents, and the counts that stand there.
@@ -155,15 +146,24 @@ impl<'a> CountedFile<'a> {
         check(byte == total, FileFaultKind::WrongLength, total)
     }
 
-    // The ends of the bindings, from before to.
+    // 8 where the field of two bytes is none of the places.
+    fn check_end(&self, at: usize) -> Result<(), FileFault>
+        requires { at + 2 ≤ length self.now.bytes.now }
+        ensures { result_err result ≡ no_place at self.now.bytes.now }
+    {
+        let end = usize::from(u16_at(self.bytes, at));
+        check(end < self.places, FileFaultKind::NoPlace, at)
+    }
+
+    // The ends of the bindings, `from` before `to`.
     fn check_ends(&self) -> Result<(), FileFault>
         requires { rules_start self.now.places self.now.bindings ≤ length self.now.bytes.now }
         ensures { result_err result ≡ ends_fault self.now.bytes.now 0 (binding_count self.now.bytes.now) }
     {
         for number in 0..self.bindings {
             let byte = binding_byte(self.places, number);
-            check_end(self.bytes, byte, self.places)?;
-            check_end(self.bytes, byte + 2, self.places)?;
+            self.check_end(byte)?;
+            self.check_end(byte + 2)?;
         }
         Ok(())
     }

@@ -9,9 +9,8 @@ ghost use Rattle.plan.specs.Writing.{lent, plan_with, site_plan, texts_fault, Ba
 
 use crate::bytes::known_bytes;
 use crate::fault::{FileFault, FileFaultKind, PlanFault, WriteFault};
-use crate::layout::{
-    BINDING_BYTES, BINDINGS, FIRST_BODY, MOST_RULES, PLACE_BYTES, PLACES, RULE_COUNT, RULES,
-};
+use crate::file::rules::MOST_RULES;
+use crate::layout::{BINDING_BYTES, BINDINGS, FIRST_BODY, PLACE_BYTES, PLACES, RULE_COUNT, RULES};
 use crate::shape::{binding_byte, check};
 use crate::text::check_text;
 use conditions::word::Word;

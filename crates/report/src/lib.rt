@@ -7,4 +7,4 @@ pub mod file;
 mod lines;
 pub mod outcome;
 pub mod printed;
-mod rule;
+pub mod rule;

@@ -11,9 +11,9 @@ use tables::table::MOST_ROWS;
 use verdicts::entries::judge_entries;
 
 // The rooms of a work space in which each table can be judged on each network: of 32 rows by 256 places, and of two rows.
-pub(crate) const MAIN_ROOM: usize = MOST_ROWS * MOST_PLACES;
+pub const MAIN_ROOM: usize = MOST_ROWS * MOST_PLACES;
 
-pub(crate) const SPARE_ROOM: usize = 2 * MOST_PLACES;
+pub const SPARE_ROOM: usize = 2 * MOST_PLACES;
 
 // Judges the network against the table of one rule, and adds the rule's line.
 pub(crate) fn add_rule<N: Network>(

@@ -13,7 +13,7 @@ pub const MOST_PLACES: usize = 256;
 
 pub const MOST_BINDINGS: usize = 4096;
 
-// The marks of a place: those from 0 to 31.
+// The number of marks of a place.
 pub const MARKS: u8 = 32;
 
 pub trait Network {

@@ -19,6 +19,7 @@ fn check_verdict(
     verdict: Verdict,
     rounds: usize,
 ) -> Result<(), Fail> {
+    // Room for 32 rows on three places.
     let mut main = [Word(0); 96];
     let mut spare = [Word(0); 6];
     let judgement = judge_site(marks, records, table, &mut main, &mut spare)?;
@@ -61,7 +62,7 @@ fn no_places(rt: HostRuntime) -> Result<(), Fail> {
 #[test]
 fn short_list(rt: HostRuntime) {
     let mut main = [Word(7); 11];
-    let mut spare = [Word(0); 6];
+    let mut spare = [Word(7); 6];
     let judged = judge_site(
         &networks::l_marks(),
         &networks::l_bindings(),
@@ -71,5 +72,6 @@ fn short_list(rt: HostRuntime) {
     );
     assert_eq!(rt; judged.err(), Some(Refusal::TooShort));
     assert_eq!(rt; judged.err().map(|refusal| refusal.number()), Some(14));
-    assert_eq!(rt; main[0].0, 7);
+    assert_eq!(rt; main, [Word(7); 11]);
+    assert_eq!(rt; spare, [Word(7); 6]);
 }

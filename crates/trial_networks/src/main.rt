@@ -12,9 +12,18 @@ use routing::site::SiteTable;
 use samples::networks;
 use std::io;
 use tables::row::{Operation, Row};
-use tables::table::read_row;
+use tables::table::{MOST_ROWS, read_row};
 use verdicts::entries::judge_entries;
 use verdicts::verdict::{Judgement, Verdict};
+
+// The most places of a trial network.
+const PLACES: usize = 3;
+
+// What stands in a list of steps before a route is written.
+const NO_STEP: RouteStep = RouteStep {
+    place: 0,
+    setting: 0,
+};
 
 // A route from an entry: its steps, and how it ends.
 #[derive(Clone, Copy)]
@@ -68,8 +77,8 @@ fn find<'a>(
     table: &[Row],
     steps: &'a mut [RouteStep],
 ) -> Result<Found<'a>, Refusal> {
-    let mut main = [Word(0); 96];
-    let mut spare = [Word(0); 6];
+    let mut main = [Word(0); MOST_ROWS * PLACES];
+    let mut spare = [Word(0); 2 * PLACES];
     let judgement = judge_entries(site, table, &mut main, &mut spare)?;
     let route = match judgement.verdict {
         Verdict::Holds => None,
@@ -131,10 +140,7 @@ fn print_network(
         Err(refusal) => return print_refusal(rt, refusal),
     };
     for (number, table) in rules.iter().enumerate() {
-        let mut steps = [RouteStep {
-            place: 0,
-            setting: 0,
-        }; 4];
+        let mut steps = [NO_STEP; PLACES + 1];
         match find(&site, table, &mut steps) {
             Ok(found) => print_found(rt, number, found)?,
             Err(refusal) => print_refusal(rt, refusal)?,

@@ -10,6 +10,9 @@ use conditions::word::Word;
 use rule_text::read::read_rule;
 use rule_text::table::Table;
 
+// The most rules of a plan.
+pub const MOST_RULES: usize = 8;
+
 impl<'a> PlanFile<'a> {
     // The number of rules.
     pub fn rules(&self) -> usize

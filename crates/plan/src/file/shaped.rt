@@ -13,7 +13,7 @@ use crate::fields::{text_of, u16_at};
 use crate::shape::{CountedFile, binding_byte, check_shape};
 use crate::text::check_text;
 
-// The bytes that the caller lends, and their counts.
+// Outside the texts of its rules this file has no fault.
 #[derive(Clone, Copy)]
 pub(crate) struct ShapedFile<'a> {
     pub(crate) counted: CountedFile<'a>,
