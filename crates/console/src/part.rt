@@ -46,6 +46,6 @@ impl<'a> Part<'a> {
     }
 
     pub(crate) fn says_yes(self) -> bool {
-        self.operation() == Some(Operation::Yes)
+        matches!(self.operation(), Some(Operation::Yes))
     }
 }
