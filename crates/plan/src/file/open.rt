@@ -55,14 +55,15 @@ impl<'a> Network for PlanFile<'a> {
     }
 
     fn binding(&self, number: usize) -> Option<Binding<Word>> {
-        if number >= self.file.counted.bindings {
+        let file = self.file.counted;
+        if number >= file.bindings {
             return None;
         }
-        let byte = binding_byte(self.file.counted.places, number);
+        let byte = binding_byte(file.places, number);
         Some(Binding {
-            from: u16_at(self.file.counted.bytes, byte),
-            to: u16_at(self.file.counted.bytes, byte + 2),
-            set: Word(u64_at(self.file.counted.bytes, byte + 4)),
+            from: u16_at(file.bytes, byte),
+            to: u16_at(file.bytes, byte + 2),
+            set: Word(u64_at(file.bytes, byte + 4)),
         })
     }
 }

@@ -8,8 +8,8 @@ use Rattle.plan.specs.Fitting.{length_listed}
 use Rattle.plan.proofs.Listed.{nth_listed}
 use Rattle.plan.proofs.file.open.PlanFileNetwork.binding.Goals as goal
 
-pub returns-then-number-self : goal.returns-then-number-self
-returns-then-number-self c =
+pub returns-then-number-file : goal.returns-then-number-file
+returns-then-number-file c =
     let file = c.args.self.now.file.counted.bytes.now in
     let are = c.args.self.now.file.counted.bindings_are in
     let links = length_links word_holds (listed (binding_count file) (binding_at file)) in
