@@ -1,4 +1,4 @@
--- What callbacks, functions that a caller passes on, do: said by what their results mean.
+-- What a callback does, which is a function that the caller hands in: said by what its results mean.
 use Rattle.std.specs.Prelude.{◌≡◌, ℕ, suc, ◌<◌, Bool, Option}
 use Rattle.routing.specs.Net.{Net, Pos, Within}
 use Rattle.routing.specs.Routes.{SomeNext}

@@ -79,7 +79,7 @@ fn check_length(file: &[u8], byte: usize, total: usize) -> Result<(), FileFault>
     check_limit(file, byte, MOST_BYTES)
 }
 
-// A file that is long enough for its contents, and the counts that stand there.
+// A file that is long enough for its contents, and the counts that stand there, each in two bytes.
 #[derive(Clone, Copy)]
 pub(crate) struct CountedFile<'a> {
     pub(crate) bytes: &'a [u8],
@@ -95,6 +95,7 @@ pub(crate) struct CountedFile<'a> {
 }
 
 impl<'a> CountedFile<'a> {
+    // Reads the counts of a file that is long enough for them.
     fn read(bytes: &'a [u8]) -> CountedFile<'a>
         requires { 24 ≤ length bytes.now }
         ensures { result.bytes.now ≡ bytes.now }
@@ -107,6 +108,7 @@ impl<'a> CountedFile<'a> {
         }
     }
 
+    // 9 where a count is above its limit.
     fn check_counts(&self) -> Result<(), FileFault>
         ensures { result_err result ≡ counts_fault self.now.bytes.now }
     {
@@ -115,6 +117,7 @@ impl<'a> CountedFile<'a> {
         check_limit(self.bytes, RULE_COUNT, MOST_RULES)
     }
 
+    // 6 where an entry has another kind, or another start than the counts before it give.
     fn check_contents(&self) -> Result<(), FileFault>
         ensures { result_err result ≡ contents_fault self.now.bytes.now }
     {
