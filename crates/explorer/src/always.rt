@@ -3,7 +3,7 @@ use crate::graph::Graph;
 use crate::positions::PositionSet;
 use std::alloc::AllocError;
 
-#[derive(Clone, Copy, PartialEq, Eq)]
+#[derive(Clone, Copy)]
 enum State {
     // Not come to.
     New,
@@ -28,6 +28,10 @@ impl<'a> Walk<'a> {
         self.states.get(position).copied().unwrap_or(State::Lost)
     }
 
+    fn is_new(&self, position: usize) -> bool {
+        matches!(self.state(position), State::New)
+    }
+
     fn set_state(&mut self, position: usize, state: State) {
         if let Some(slot) = self.states.get_mut(position) {
             *slot = state;
@@ -44,10 +48,9 @@ impl<'a> Walk<'a> {
 
     // Looks at the successors of an open position: settles its state, or answers a new one that has to be settled first.
     fn look(&mut self, at: usize) -> Option<usize> {
-        let new = self.graph.successor_where(
-            at,
-            |to| self.p.contains(to) && self.state(to) == State::New,
-        );
+        let new = self
+            .graph
+            .successor_where(at, |to| self.p.contains(to) && self.is_new(to));
         if new.is_none() {
             let state = if self.is_kept(at) {
                 State::Kept
@@ -92,11 +95,11 @@ fn keeps(graph: &Graph, p: &PositionSet, ends: &PositionSet) -> Result<PositionS
         states,
     };
     for start in 0..graph.size() {
-        if p.contains(start) && walk.state(start) == State::New {
+        if p.contains(start) && walk.is_new(start) {
             walk.settle(start)?;
         }
     }
-    graph.positions_where(|at| walk.state(at) == State::Kept)
+    graph.positions_where(|at| matches!(walk.state(at), State::Kept))
 }
 
 // The positions from which some route has p at each of its positions.

@@ -29,7 +29,7 @@ pub struct Graph {
 impl Graph {
     // The graph of a network; the sets of its positions are made on the heap.
     pub fn of<N: Network>(heap: Global, net: &N) -> Result<Graph, AllocError> {
-        let conditions = net.conditions();
+        let conditions = N::Set::conditions();
         let size = net.places() << conditions;
         let mut places = Vec::new(heap);
         for place in 0..net.places() {

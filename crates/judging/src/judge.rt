@@ -24,7 +24,7 @@ pub(crate) fn judge_rows<N: Network>(
     requires halves { HasHalves (N.meaning net.now) spare.old }
     ensures { Judged N.Set.ConditionSet.holds (N.meaning net.now) table.now main.old main.new result }
 {
-    let conditions = net.conditions();
+    let conditions = N::Set::conditions();
     let mut rounds = 0;
     for (number, row) in table.iter().enumerate() {
         if let Some(op) = read_row(*row, number, conditions) {
@@ -51,7 +51,7 @@ pub fn judge<N: Network>(
     ensures main { OnErr result (main.new ≡ main.old) }
     ensures spare { OnErr result (spare.new ≡ spare.old) }
 {
-    if !is_accepted(table, net.conditions()) {
+    if !is_accepted(table, N::Set::conditions()) {
         return Err(Refusal::BadTable);
     }
     let n = net.places();

@@ -32,7 +32,7 @@ fn asked<N: Network>(
     ensures refusal { result_err result ≡ query_refusal (N.meaning net.now) table.now row (as_pos at) }
     ensures row { IfOk result (λ op. coded op ≡ slice_index_or table.now row no_row) }
 {
-    let conditions = net.conditions();
+    let conditions = N::Set::conditions();
     if !is_accepted(table, conditions) {
         return Err(Refusal::BadTable);
     }

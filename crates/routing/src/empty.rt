@@ -29,10 +29,6 @@ impl<S: ConditionSet> Network for Empty<S> {
 
     ghost over = { λ _. refl };
 
-    fn conditions(&self) -> u32 {
-        S::conditions()
-    }
-
     fn places(&self) -> usize {
         0
     }

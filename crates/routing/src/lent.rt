@@ -11,10 +11,6 @@ impl<N: Network> Network for &N {
 
     ghost over = { λ n. N.Network.over n.now };
 
-    fn conditions(&self) -> u32 {
-        (**self).conditions()
-    }
-
     fn places(&self) -> usize {
         (**self).places()
     }

@@ -26,10 +26,6 @@ pub trait Network {
     // What each implementation shows of it.
     ghost fits: { (n : Self) → Fits (meaning n) };
 
-    // The number of conditions.
-    fn conditions(&self) -> u32
-        ensures { result ≡ (meaning self.now).conditions };
-
     // The number of places.
     fn places(&self) -> usize
         ensures { result ≡ places (meaning self.now) };

@@ -5,6 +5,7 @@ use crate::routes::compare_routes;
 use crate::space::Space;
 use crate::tally::{Seen, Tally};
 use crate::texts::try_text;
+use conditions::set::ConditionSet;
 use explorer::graph::Graph;
 use explorer::rows::{Found, Rows};
 use generator::network::draw_network;
@@ -105,12 +106,12 @@ impl Trial {
         let graph = Graph::of(self.heap, net)?;
         count_kinds(net, &graph, &mut self.tally);
         for _ in 0..TABLES {
-            let table = draw_table(self.heap, &mut self.random, net.conditions())?;
+            let table = draw_table(self.heap, &mut self.random, N::Set::conditions())?;
             try_table(net, &graph, &table, &mut self.tally)?;
             self.tally.add(Seen::Tables, 1);
         }
         for _ in 0..TEXTS {
-            let forms = draw_rule(self.heap, &mut self.random, net.conditions())?;
+            let forms = draw_rule(self.heap, &mut self.random, N::Set::conditions())?;
             try_text(net, &graph, &forms, &mut self.tally)?;
         }
         Ok(())

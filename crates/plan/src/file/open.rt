@@ -9,7 +9,6 @@ use crate::file::PlanFile;
 use crate::file::shaped::ShapedFile;
 use crate::layout::{FIRST_BODY, PLACE_BYTES};
 use crate::shape::binding_byte;
-use conditions::set::ConditionSet;
 use conditions::word::Word;
 use routing::binding::Binding;
 use routing::network::Network;
@@ -33,10 +32,6 @@ impl<'a> Network for PlanFile<'a> {
     ghost fits = { file_fits };
 
     ghost over = { λ _. refl };
-
-    fn conditions(&self) -> u32 {
-        Word::conditions()
-    }
 
     fn places(&self) -> usize {
         self.file.counted.places

@@ -20,10 +20,6 @@ impl<'a, S: ConditionSet> Network for SiteTable<'a, S> {
 
     ghost over = { λ _. refl };
 
-    fn conditions(&self) -> u32 {
-        S::conditions()
-    }
-
     fn places(&self) -> usize {
         self.marks.len()
     }

@@ -12,6 +12,7 @@ loop-number-preserved g c =
     let holds = g.N.Set.ConditionSet.holds in
     let N : Net = g.N.Network.meaning c.args.net.now in
     let K = c.conditions-conditions.result in
+    let over = g.met.N.Network.over c.args.net.now ∙ sym c.conditions-conditions.ensures in
     let rows = c.args.table.now in
     let start = c.args.main.now in
     let row = c.loop-number.number in
@@ -25,5 +26,5 @@ loop-number-preserved g c =
           w.in-Some.ensures.1 w.in-Some.ensures.0 c.loop-number.invariant e.before e.behind e.written e.counted e.few))
       | in_default w ↦
           let fits = accepted_row N.conditions rows c.requires.taken row c.loop-number-test.true in
-          absurd (true≢false (sym fits ∙ ap (λ k. row_fits k row (get_or rows row no_row)) (sym c.conditions-conditions.ensures) ∙ w.in_default.ensures))
+          absurd (true≢false (sym fits ∙ ap (λ k. row_fits k row (get_or rows row no_row)) over ∙ w.in_default.ensures))
     ]

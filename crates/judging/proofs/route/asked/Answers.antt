@@ -10,6 +10,7 @@ use Rattle.judging.proofs.route.asked.Goals as goal
 pub returns-in_default-read_row-2-clause-refusal : goal.returns-in_default-read_row-2-clause-refusal
 returns-in_default-read_row-2-clause-refusal g c =
     let N : Net = g.N.Network.meaning c.args.net.now in
+    let over = g.met.N.Network.over c.args.net.now ∙ sym c.conditions-conditions.ensures in
     let rows = c.args.table.now in
     let row = c.args.row in
     let taken : accepted N.conditions rows ≡ true = search rules in
@@ -17,4 +18,4 @@ returns-in_default-read_row-2-clause-refusal g c =
     let fits : row_fits N.conditions row (get_or rows row no_row) ≡ true = accepted_row N.conditions rows taken row inside in
     let fails : row_fits c.conditions-conditions.result row c.in-Some.found.now ≡ false = MatchOption-at_none _ _ c.in_default-read_row.is c.read_row.ensures in
     let is : get_or rows row no_row ≡ c.in-Some.found.now = get_or_from_slice_get rows row c.in-Some.found.now no_row (slice_get_read rows (length rows) row _ refl inside c.in-Some.ensures.lookup.1) in
-    absurd (true≢false (sym fits ∙ ap (λ (k : ℕ). row_fits k row (get_or rows row no_row)) (sym c.conditions-conditions.ensures) ∙ ap (row_fits c.conditions-conditions.result row) is ∙ fails))
+    absurd (true≢false (sym fits ∙ ap (λ (k : ℕ). row_fits k row (get_or rows row no_row)) over ∙ ap (row_fits c.conditions-conditions.result row) is ∙ fails))
