@@ -1,5 +1,5 @@
 -- Lists by their number of elements and what stands at each number.
-use Rattle.std.proofs.Common.{◌≡◌, ℕ, zero, suc, ◌<◌, ◌≤◌, true, ◌&&◌, ltb, Some, None, refl, arith}
+use Rattle.std.proofs.Common.{◌≡◌, ℕ, zero, suc, ◌<◌, ◌≤◌, true, ◌&&◌, ltb, List, [], ◌∷◌, length, Some, None, refl, arith}
 use Rattle.std.specs.List.{slice_get}
 use Rattle.std.proofs.lemmas.Bool.{lt-ltb, and_from}
 use Rattle.routing.specs.declared.binding.Binding.{Binding}
@@ -28,6 +28,12 @@ inside_listed places (suc n) f ends =
     and_from (ltb (f 0).from places && ltb (f 0).to places) (all_inside places (listed n (λ k. f (suc k))))
     (and_from (ltb (f 0).from places) (ltb (f 0).to places) (lt-ltb (f 0).from places here.0) (lt-ltb (f 0).to places here.1))
     (inside_listed places n (λ k. f (suc k)) (λ k below. ends (suc k) (omega arith)))
+
+-- Where nothing stands at a number, the list is no longer than that.
+pub past_of_none : {A : Type 0} (xs : List A) (i : ℕ) → None ≡ slice_get xs i → length xs ≤ i
+past_of_none [] i e = omega arith
+past_of_none (x ∷ xs) zero e = let z : ◌≡◌ {A = ℕ} 0 1 = cc in absurd (omega arith)
+past_of_none (x ∷ xs) (suc i) e = let rest = past_of_none xs i e in omega arith
 
 -- What stands at a number of the list is what f gives there.
 pub listed_at : {A : Type 0} (n : ℕ) (f : ℕ → A) (i : ℕ) (x : A) → slice_get (listed n f) i ≡ Some x → (i < n) × (f i ≡ x)

@@ -15,10 +15,9 @@ fn find_from<P: Fn(u8) -> bool>(text: &[u8], at: usize, test: P) -> usize
         → P.post test (slice_index text.now (at + k)) false }
     ensures found { result < length text.now → P.post test (slice_index text.now result) true }
 {
-    text[at..]
-        .iter()
-        .position(|b| test(*b))
-        .map_or(text.len(), |n| at + n)
+    (at..text.len())
+        .find(|i| test(text[*i]))
+        .unwrap_or(text.len())
 }
 
 // The first byte from `at` on that is no space, or the text's length.

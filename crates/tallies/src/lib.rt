@@ -4,5 +4,3 @@
 pub mod counts;
 pub mod latin1;
 pub mod tally;
-#[cfg(test)]
-mod tests;

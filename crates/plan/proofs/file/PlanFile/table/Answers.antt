@@ -1,4 +1,4 @@
-use Rattle.std.proofs.Common.{◌≡◌, ℕ, ◌<◌, List, Ok, Err, Result, IsOk, refl, sym, subst, arith}
+use Rattle.std.proofs.Common.{rules, ◌≡◌, ℕ, ◌<◌, List, Ok, Err, Result, IsOk, refl, sym, subst, arith}
 use mathlib.Core.Logic.{∥∥₁_elim}
 use Rattle.routing.specs.Rules.{Rule}
 use Rattle.rule_text.specs.declared.fault.Fault.{Fault}
@@ -6,8 +6,9 @@ use Rattle.rule_text.specs.declared.table.Table.{Table}
 use Rattle.rule_text.specs.Reading.{Answer, Reading}
 use Rattle.rule_text.proofs.Once.{reading_once}
 use Rattle.plan.specs.Contents.{rule_count, text_at}
+use Rattle.plan.specs.Files.{file_plan}
 use Rattle.plan.specs.Reading.{TextsRead}
-use Rattle.plan.proofs.Listed.{listed_at}
+use Rattle.plan.proofs.Listed.{listed_at, past_of_none}
 use Rattle.plan.proofs.file.PlanFile.table.Goals as goal
 
 -- A text that is a rule is not refused.
@@ -30,3 +31,9 @@ unwrap-requires c =
     let file = c.args.self.now.file.counted.bytes.now in
     let at = listed_at (rule_count file) (text_at file) _ c.in_ok-text.text.now (sym c.in_ok-text.ensures) in
     is_read file c.in_ok-text.text.now _ c.read_rule.result at.0 at.1 c.args.self.now.read c.read_rule.ensures.answer
+
+-- A search for this one takes long.
+pub returns-in_err-text : goal.returns-in_err-text
+returns-in_err-text c =
+    let beyond = past_of_none (file_plan c.args.self.now).texts c.args.rule c.in_err-text.ensures in
+    search rules
