@@ -1,7 +1,7 @@
 // The words of rule text.
 
 // The words that stand before their part: `!` and the two-letter words.
-#[derive(Clone, Copy, Debug, PartialEq, Eq)]
+#[derive(Clone, Copy, PartialEq, Eq)]
 pub enum Prefix {
     Not,
     Ex,
@@ -13,13 +13,13 @@ pub enum Prefix {
 }
 
 // The words that begin an until: `E`, of some route, and `A`, of every route.
-#[derive(Clone, Copy, Debug, PartialEq, Eq)]
+#[derive(Clone, Copy, PartialEq, Eq)]
 pub enum Quantifier {
     Exists,
     Forall,
 }
 
-#[derive(Clone, Copy, Debug, PartialEq, Eq)]
+#[derive(Clone, Copy, PartialEq, Eq)]
 pub enum Word {
     // `yes`
     Yes,
