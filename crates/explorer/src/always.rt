@@ -114,6 +114,7 @@ pub fn breaks_until(
     q: &PositionSet,
 ) -> Result<PositionSet, AllocError> {
     let waiting = graph.complement(q)?;
-    let missing = graph.positions_where(|at| !p.contains(at) && !q.contains(at))?;
+    let either = graph.either(p, q)?;
+    let missing = graph.complement(&either)?;
     keeps(graph, &waiting, &missing)
 }

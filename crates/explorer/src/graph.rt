@@ -34,15 +34,15 @@ impl Graph {
         let mut places = Vec::new(heap);
         for place in 0..net.places() {
             let marks = net.marks(place).unwrap_or(0);
-            let before = PositionSet::of(heap, size, |_| false)?;
+            let before = PositionSet::filled(heap, size, false)?;
             places.push(Place { marks, before })?;
         }
         let mut graph = Graph {
             heap,
             conditions,
             places,
-            everywhere: PositionSet::of(heap, size, |_| true)?,
-            nowhere: PositionSet::of(heap, size, |_| false)?,
+            everywhere: PositionSet::filled(heap, size, true)?,
+            nowhere: PositionSet::filled(heap, size, false)?,
         };
         graph.add_steps(net);
         Ok(graph)
@@ -150,6 +150,31 @@ impl Graph {
         requires { F.IsAlwaysCallable test }
     {
         PositionSet::of(self.heap, self.size(), test)
+    }
+
+    // The positions whose place has mark k.
+    pub fn marked(&self, k: u8) -> Result<PositionSet, AllocError> {
+        self.positions_where(|at| self.has_mark(at, k))
+    }
+
+    // The positions where condition k is on.
+    pub fn while_on(&self, k: u8) -> Result<PositionSet, AllocError> {
+        self.positions_where(|at| self.has_condition(at, k))
+    }
+
+    // The positions that both sets have.
+    pub fn both(&self, p: &PositionSet, q: &PositionSet) -> Result<PositionSet, AllocError> {
+        self.positions_where(|at| p.contains(at) && q.contains(at))
+    }
+
+    // The positions that one of the sets has.
+    pub fn either(&self, p: &PositionSet, q: &PositionSet) -> Result<PositionSet, AllocError> {
+        self.positions_where(|at| p.contains(at) || q.contains(at))
+    }
+
+    // The positions from which some step leads into a set.
+    pub fn before(&self, set: &PositionSet) -> Result<PositionSet, AllocError> {
+        self.positions_where(|at| self.leads_into(at, set))
     }
 
     // The positions that a set does not have.

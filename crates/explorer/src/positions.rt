@@ -8,6 +8,12 @@ pub struct PositionSet {
 }
 
 impl PositionSet {
+    // All positions below `size`, or none of them.
+    pub fn filled(heap: Global, size: usize, with: bool) -> Result<PositionSet, AllocError> {
+        let members = vec![in heap; with; size]?;
+        Ok(PositionSet { members })
+    }
+
     // The positions below `size` that pass a test.
     pub fn of<F: Fn(usize) -> bool>(
         heap: Global,

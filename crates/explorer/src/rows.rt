@@ -41,29 +41,25 @@ impl<'a> Rows<'a> {
 
     // The positions where a row holds.
     pub fn operand(&self, number: u8) -> &PositionSet {
-        self.found
-            .get(usize::from(number))
-            .map_or(self.graph.nowhere(), |row| &row.held)
+        match self.found.get(usize::from(number)) {
+            Some(row) => &row.held,
+            None => self.graph.nowhere(),
+        }
     }
 
     // The positions where the next row holds.
     fn explore(&self, operation: Operation) -> Result<PositionSet, AllocError> {
         let graph = self.graph;
-        let of = |number: u8| self.operand(number);
         match operation {
-            Operation::Yes => graph.positions_where(|_| true),
-            Operation::Mark(k) => graph.positions_where(|at| graph.has_mark(at, k)),
-            Operation::Condition(k) => graph.positions_where(|at| graph.has_condition(at, k)),
-            Operation::Not(p) => graph.complement(of(p)),
-            Operation::And(p, q) => {
-                graph.positions_where(|at| of(p).contains(at) && of(q).contains(at))
-            }
-            Operation::Or(p, q) => {
-                graph.positions_where(|at| of(p).contains(at) || of(q).contains(at))
-            }
-            Operation::Next(p) => graph.positions_where(|at| graph.leads_into(at, of(p))),
-            Operation::Until(p, q) => holds_until(graph, of(p), of(q)),
-            Operation::Always(p) => holds_always(graph, of(p)),
+            Operation::Yes => graph.everywhere().clone(),
+            Operation::Mark(k) => graph.marked(k),
+            Operation::Condition(k) => graph.while_on(k),
+            Operation::Not(p) => graph.complement(self.operand(p)),
+            Operation::And(p, q) => graph.both(self.operand(p), self.operand(q)),
+            Operation::Or(p, q) => graph.either(self.operand(p), self.operand(q)),
+            Operation::Next(p) => graph.before(self.operand(p)),
+            Operation::Until(p, q) => holds_until(graph, self.operand(p), self.operand(q)),
+            Operation::Always(p) => holds_always(graph, self.operand(p)),
         }
     }
 
@@ -73,16 +69,18 @@ impl<'a> Rows<'a> {
     // that have steps but none into it.
     fn settle(&self, operation: Operation) -> Result<Option<Settled>, AllocError> {
         let graph = self.graph;
-        let of = |number: u8| self.operand(number);
         let settled = match operation {
-            Operation::Until(p, q) => settle_rounds(
-                graph,
-                of(q),
-                |at, set| set.contains(at) || (of(p).contains(at) && graph.leads_into(at, set)),
-            )?,
+            Operation::Until(p, q) => {
+                let p = self.operand(p);
+                settle_rounds(
+                    graph,
+                    self.operand(q),
+                    |at, set| set.contains(at) || (p.contains(at) && graph.leads_into(at, set)),
+                )?
+            }
             Operation::Always(p) => settle_rounds(
                 graph,
-                of(p),
+                self.operand(p),
                 |at, set| set.contains(at) && (graph.leads_into(at, set) || graph.rests(at)),
             )?,
             _ => return Ok(None),

@@ -15,14 +15,16 @@ struct Backwards<'a> {
 }
 
 impl<'a> Backwards<'a> {
+    // Whether the walk has come to a place.
+    fn has_seen(&self, place: usize) -> bool {
+        let seen = &self.seen;
+        self.graph.positions_of(place).any(|at| seen.contains(at))
+    }
+
     // Adds a position, and its place if the walk has not come to the place before.
     fn add(&mut self, position: usize) -> Result<(), AllocError> {
         let place = self.graph.place_of(position);
-        if !self
-            .graph
-            .positions_of(place)
-            .any(|at| self.seen.contains(at))
-        {
+        if !self.has_seen(place) {
             self.places.push(place)?;
         }
         self.seen.insert(position);
