@@ -6,6 +6,19 @@ use explorer::positions::PositionSet;
 use explorer::rows::{Rows, failing_entry};
 use verdicts::verdict::Verdict;
 
+// Whether what judging wrote for a place differs at a position of it from whether the row holds there.
+fn is_wrong<S: ConditionSet>(
+    graph: &Graph,
+    held: &PositionSet,
+    written: Option<&S>,
+    at: usize,
+) -> bool {
+    match written {
+        Some(set) => set.contains(graph.setting_of(at)) != held.contains(at),
+        None => true,
+    }
+}
+
 // At how many positions the sets that judging wrote for a row, one for each place, differ from those where the row holds.
 pub fn count_wrong<S: ConditionSet>(
     graph: &Graph,
@@ -17,7 +30,7 @@ pub fn count_wrong<S: ConditionSet>(
     (0..graph.size())
         .filter(|&at| {
             let written = main.get(start.saturating_add(graph.place_of(at)));
-            written.is_none_or(|set| set.contains(graph.setting_of(at)) != held.contains(at))
+            is_wrong(graph, held, written, at)
         })
         .count()
 }
@@ -55,29 +68,30 @@ pub fn compare_main<S: ConditionSet>(rows: &Rows, main: &[S], tally: &mut Tally)
 
 // Compares the rounds that judging answered with the sum over the rows.
 pub fn compare_rounds(rows: &Rows, rounds: usize, tally: &mut Tally) {
-    let sum = rows
-        .found
-        .iter()
-        .fold(0usize, |sum, row| sum.saturating_add(row.rounds));
-    tally.add(
-        Seen::WrongRounds,
-        rows.found.iter().filter(|row| !row.agrees).count(),
-    );
+    let mut sum = 0usize;
+    for row in &rows.found {
+        sum = sum.saturating_add(row.rounds);
+        tally.add_if(Seen::WrongRounds, !row.agrees);
+    }
     tally.add_if(Seen::WrongRounds, sum != rounds);
+}
+
+// The verdict on the last row at the entries.
+fn expected_verdict(rows: &Rows) -> Verdict {
+    let graph = rows.graph;
+    let Some(last) = rows.found.last() else {
+        return Verdict::Holds;
+    };
+    match failing_entry(graph, &last.held) {
+        Some(at) => Verdict::Breaks(graph.place_of(at), graph.setting_of(at)),
+        None => Verdict::Holds,
+    }
 }
 
 // Compares the verdict with the one on the last row at the entries.
 pub fn compare_verdict(rows: &Rows, verdict: Verdict, tally: &mut Tally) {
-    let graph = rows.graph;
-    let failing = rows
-        .found
-        .last()
-        .and_then(|last| failing_entry(graph, &last.held));
-    let expected = failing.map_or(
-        Verdict::Holds,
-        |at| Verdict::Breaks(graph.place_of(at), graph.setting_of(at)),
-    );
-    tally.add_if(Seen::Holds, verdict == Verdict::Holds);
-    tally.add_if(Seen::Breaks, verdict != Verdict::Holds);
-    tally.add_if(Seen::WrongVerdicts, verdict != expected);
+    let holds = verdict == Verdict::Holds;
+    tally.add_if(Seen::Holds, holds);
+    tally.add_if(Seen::Breaks, !holds);
+    tally.add_if(Seen::WrongVerdicts, verdict != expected_verdict(rows));
 }

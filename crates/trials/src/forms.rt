@@ -11,18 +11,19 @@ fn work_form(graph: &Graph, done: &[PositionSet], form: Form) -> Result<Position
     let part = |number: usize| done.get(number).unwrap_or(graph.nowhere());
     let all = graph.everywhere();
     match form {
-        Form::Yes => graph.positions_where(|_| true),
-        Form::Mark(k) => graph.positions_where(|at| graph.has_mark(at, k)),
-        Form::Condition(k) => graph.positions_where(|at| graph.has_condition(at, k)),
+        Form::Yes => all.clone(),
+        Form::Mark(k) => graph.marked(k),
+        Form::Condition(k) => graph.while_on(k),
         Form::Not(p) => graph.complement(part(p)),
-        Form::And(p, q) => graph.positions_where(|at| part(p).contains(at) && part(q).contains(at)),
-        Form::Or(p, q) => graph.positions_where(|at| part(p).contains(at) || part(q).contains(at)),
-        Form::SomeNext(p) => graph.positions_where(|at| graph.leads_into(at, part(p))),
+        Form::And(p, q) => graph.both(part(p), part(q)),
+        Form::Or(p, q) => graph.either(part(p), part(q)),
+        Form::SomeNext(p) => graph.before(part(p)),
         Form::SomeFuture(q) => holds_until(graph, all, part(q)),
         Form::SomeAlways(p) => holds_always(graph, part(p)),
         Form::SomeUntil(p, q) => holds_until(graph, part(p), part(q)),
         Form::EveryNext(p) => {
-            graph.positions_where(|at| !graph.leads_to(at, |to| !part(p).contains(to)))
+            let without = graph.complement(part(p))?;
+            graph.complement(&graph.before(&without)?)
         }
         Form::EveryFuture(q) => graph.complement(&breaks_until(graph, all, part(q))?),
         Form::EveryAlways(p) => {

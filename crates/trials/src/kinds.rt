@@ -5,31 +5,29 @@ use explorer::graph::Graph;
 use routing::binding::Binding;
 use routing::network::Network;
 
-// Whether some binding before `end` passes a test of its number and itself.
-fn any_binding<N: Network, F: Fn(usize, Binding<N::Set>) -> bool>(
-    net: &N,
-    end: usize,
-    test: F,
-) -> bool
-    requires { F.IsAlwaysCallable test }
-{
-    (0..end).any(|number| net.binding(number).is_some_and(|b| test(number, b)))
+// Whether some binding before a binding joins the same places.
+fn has_parallel<N: Network>(net: &N, number: usize, b: &Binding<N::Set>) -> bool {
+    for before in (0..number).filter_map(|number| net.binding(number)) {
+        if before.from == b.from && before.to == b.to {
+            return true;
+        }
+    }
+    false
 }
 
 // Counts a network with self-loops, with empty sets, with parallel bindings.
 fn count_bindings<N: Network>(net: &N, tally: &mut Tally) {
-    let end = net.bindings();
-    let looped = any_binding(net, end, |_, b| b.from == b.to && b.set.pick().is_some());
-    let empty = any_binding(net, end, |_, b| b.set.pick().is_none());
-    let parallel = any_binding(
-        net,
-        end,
-        |number, b| any_binding(
-            net,
-            number,
-            |_, before| before.from == b.from && before.to == b.to,
-        ),
-    );
+    let mut looped = false;
+    let mut empty = false;
+    let mut parallel = false;
+    for number in 0..net.bindings() {
+        if let Some(b) = net.binding(number) {
+            let is_empty = b.set.pick().is_none();
+            looped |= b.from == b.to && !is_empty;
+            empty |= is_empty;
+            parallel |= has_parallel(net, number, &b);
+        }
+    }
     tally.add_if(Seen::SelfLoops, looped);
     tally.add_if(Seen::EmptySets, empty);
     tally.add_if(Seen::ParallelBindings, parallel);
@@ -47,12 +45,15 @@ fn resting_settings(graph: &Graph, place: usize) -> usize {
 fn count_places(graph: &Graph, tally: &mut Tally) {
     let settings = graph.settings() as usize;
     let none = graph.places() == 0;
-    let entry = (0..graph.size()).any(|at| graph.has_mark(at, 0));
-    let rests = (0..graph.places()).any(|place| resting_settings(graph, place) == settings);
-    let sometimes = (0..graph.places()).any(|place| {
+    let mut entry = false;
+    let mut rests = false;
+    let mut sometimes = false;
+    for place in 0..graph.places() {
         let resting = resting_settings(graph, place);
-        resting > 0 && resting < settings
-    });
+        entry |= graph.has_mark(graph.number(place, 0), 0);
+        rests |= resting == settings;
+        sometimes |= resting > 0 && resting < settings;
+    }
     tally.add_if(Seen::NoPlaces, none);
     tally.add_if(Seen::NoEntries, !none && !entry);
     tally.add_if(Seen::RestingPlaces, rests);

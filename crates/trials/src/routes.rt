@@ -46,16 +46,20 @@ fn joined(graph: &Graph, from: &RouteStep, to: &RouteStep) -> bool {
 
 // Whether the way starts at a position, comes to none twice, and has a step from each to the next.
 fn is_trail(graph: &Graph, start: RouteStep, way: &[RouteStep]) -> bool {
-    let starts = way.first() == Some(&start);
-    let inside = way.iter().all(|at| at.place < graph.places() && at.setting < graph.settings());
-    let once = way.iter().enumerate().all(|(k, at)| {
-        way.iter().position(|other| other == at) == Some(k)
-    });
-    let joins = way
-        .iter()
-        .zip(way.iter().skip(1))
-        .all(|(from, to)| joined(graph, from, to));
-    starts && inside && once && joins
+    let mut before = None;
+    for (k, at) in way.iter().enumerate() {
+        let inside = at.place < graph.places() && at.setting < graph.settings();
+        let once = !way.iter().take(k).any(|other| other == at);
+        let follows = match before {
+            Some(from) => joined(graph, from, at),
+            None => *at == start,
+        };
+        if !(inside && once && follows) {
+            return false;
+        }
+        before = Some(at);
+    }
+    before.is_some()
 }
 
 // Whether a set has each position of a way.
@@ -63,11 +67,30 @@ fn has_each(graph: &Graph, set: &PositionSet, way: &[RouteStep]) -> bool {
     way.iter().all(|at| set.contains(number_of(graph, at)))
 }
 
+// The kind of the routes of a row; absent where none can be asked for.
+fn route_kind(operation: Operation) -> Option<Seen> {
+    match operation {
+        Operation::Next(_) => Some(Seen::NextRoutes),
+        Operation::Until(_, _) => Some(Seen::UntilRoutes),
+        Operation::Always(_) => Some(Seen::AlwaysRoutes),
+        _ => None,
+    }
+}
+
+fn ending_kind(ending: Ending) -> Seen {
+    match ending {
+        Ending::Reaches => Seen::Reaching,
+        Ending::Rests => Seen::Resting,
+        Ending::Returns(_) => Seen::Returning,
+    }
+}
+
 // A row that a route is asked for, at a position, by the explorer.
 #[derive(Drop)]
 struct Query<'a> {
     rows: &'a Rows<'a>,
     found: &'a Found,
+    kind: Seen,
     at: RouteStep,
     holds: bool,
     // The fewest hops to q, for p until q where there are some.
@@ -76,7 +99,12 @@ struct Query<'a> {
 
 impl<'a> Query<'a> {
     // What the explorer says of a row at a position.
-    fn new(rows: &'a Rows<'a>, found: &'a Found, at: RouteStep) -> Result<Query<'a>, AllocError> {
+    fn new(
+        rows: &'a Rows<'a>,
+        found: &'a Found,
+        kind: Seen,
+        at: RouteStep,
+    ) -> Result<Query<'a>, AllocError> {
         let from = number_of(rows.graph, &at);
         let hops = match found.operation {
             Operation::Until(p, q) => {
@@ -87,6 +115,7 @@ impl<'a> Query<'a> {
         Ok(Query {
             rows,
             found,
+            kind,
             at,
             holds: found.held.contains(from),
             hops,
@@ -113,24 +142,27 @@ impl<'a> Query<'a> {
         let Some((last, before)) = way.split_last() else {
             return false;
         };
-        let graph = self.rows.graph;
-        let of = |number: u8| self.rows.operand(number);
+        let rows = self.rows;
+        let graph = rows.graph;
         let at = number_of(graph, last);
         match (self.found.operation, ending) {
-            (Operation::Next(p), Ending::Reaches) => { before.len() == 1 && of(p).contains(at) }
+            (Operation::Next(p), Ending::Reaches) => {
+                before.len() == 1 && rows.operand(p).contains(at)
+            }
             (Operation::Next(p), Ending::Returns(0)) => {
-                before.is_empty() && of(p).contains(at) && joined(graph, last, last)
+                before.is_empty() && rows.operand(p).contains(at) && joined(graph, last, last)
             }
             (Operation::Until(p, q), Ending::Reaches) => {
-                of(q).contains(at)
-                    && has_each(graph, of(p), before)
+                rows.operand(q).contains(at)
+                    && has_each(graph, rows.operand(p), before)
                     && self.hops == Some(before.len())
             }
             (Operation::Always(p), Ending::Rests) => {
-                has_each(graph, of(p), way) && graph.rests(at)
+                has_each(graph, rows.operand(p), way) && graph.rests(at)
             }
             (Operation::Always(p), Ending::Returns(i)) => {
-                has_each(graph, of(p), way) && way.get(i).is_some_and(|to| joined(graph, last, to))
+                has_each(graph, rows.operand(p), way)
+                    && way.get(i).is_some_and(|to| joined(graph, last, to))
             }
             _ => false,
         }
@@ -138,18 +170,8 @@ impl<'a> Query<'a> {
 
     // Counts a shown route by its operation, its ending and its length.
     fn count_route(&self, shown: Shown, tally: &mut Tally) {
-        let kind = match self.found.operation {
-            Operation::Next(_) => Seen::NextRoutes,
-            Operation::Until(_, _) => Seen::UntilRoutes,
-            _ => Seen::AlwaysRoutes,
-        };
-        let ending = match shown.ending {
-            Ending::Reaches => Seen::Reaching,
-            Ending::Rests => Seen::Resting,
-            Ending::Returns(_) => Seen::Returning,
-        };
-        tally.add(kind, 1);
-        tally.add(ending, 1);
+        tally.add(self.kind, 1);
+        tally.add(ending_kind(shown.ending), 1);
         tally.add_if(Seen::ShortRoutes, shown.count == 1);
         tally.add_if(Seen::LongRoutes, shown.count >= 3);
     }
@@ -192,14 +214,6 @@ impl<'a> Query<'a> {
     }
 }
 
-// Whether a route can be asked for of a row.
-fn shows_routes(operation: Operation) -> bool {
-    matches!(
-        operation,
-        Operation::Next(_) | Operation::Until(_, _) | Operation::Always(_)
-    )
-}
-
 // Asks for routes of each row that says next, until or always, at some settings of each place, and compares the answers.
 pub fn compare_routes<N: Network>(
     net: &N,
@@ -210,9 +224,9 @@ pub fn compare_routes<N: Network>(
 ) -> Result<(), AllocError> {
     let graph = rows.graph;
     for (number, found) in rows.found.iter().enumerate() {
-        if !shows_routes(found.operation) {
+        let Some(kind) = route_kind(found.operation) else {
             continue;
-        }
+        };
         for k in 0..graph.places().saturating_mul(samples(graph)) {
             let at = sample(graph, k);
             let mut steps = vec![in graph.heap(); BLANK; graph.places().saturating_add(1)]?;
@@ -225,7 +239,7 @@ pub fn compare_routes<N: Network>(
                 &mut space.spare,
                 &mut steps,
             );
-            let query = Query::new(&*rows, found, at)?;
+            let query = Query::new(&*rows, found, kind, at)?;
             if matches!(found.operation, Operation::Until(_, _)) {
                 query.compare_hops(tally);
             }

@@ -11,12 +11,16 @@ pub struct Space<S> {
     pub spare: Vec<S>,
 }
 
+// Sets of all settings.
+fn whole_sets<S: ConditionSet>(heap: Global, count: usize) -> Result<Vec<S>, AllocError> {
+    vec![in heap; S::all(); count]
+}
+
 impl<S: ConditionSet> Space<S> {
     // Each set is of all settings.
     pub fn new(heap: Global, main: usize) -> Result<Space<S>, AllocError> {
-        Ok(Space {
-            main: vec![in heap; S::all(); main]?,
-            spare: vec![in heap; S::all(); SPARE]?,
-        })
+        let main = whole_sets(heap, main)?;
+        let spare = whole_sets(heap, SPARE)?;
+        Ok(Space { main, spare })
     }
 }

@@ -31,13 +31,14 @@ fn size_fault(rule: &Spelled) -> Option<FaultKind> {
 // Counts a text by its last form.
 fn count_form(form: Form, tally: &mut Tally) {
     tally.add(Seen::Texts, 1);
-    match form {
-        Form::EveryNext(_) => tally.add(Seen::TextNext, 1),
-        Form::EveryFuture(_) => tally.add(Seen::TextFuture, 1),
-        Form::EveryAlways(_) => tally.add(Seen::TextAlways, 1),
-        Form::EveryUntil(_, _) => tally.add(Seen::TextUntil, 1),
-        _ => {}
-    }
+    let kind = match form {
+        Form::EveryNext(_) => Seen::TextNext,
+        Form::EveryFuture(_) => Seen::TextFuture,
+        Form::EveryAlways(_) => Seen::TextAlways,
+        Form::EveryUntil(_, _) => Seen::TextUntil,
+        _ => return,
+    };
+    tally.add(kind, 1);
 }
 
 // Judges the table of a text, and compares its last row at every position.
