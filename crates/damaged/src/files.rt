@@ -93,11 +93,16 @@ static LONGEST: [Part; 5] = [
 // A rule of 200 bytes.
 static LONG_RULE: [Part; 2] = [Part(1, b"\xC8\0yes"), Part(197, b" ")];
 
+fn push_repeated(file: &mut Vec<u8>, times: usize, bytes: &[u8]) -> Result<(), AllocError> {
+    for _ in 0..times {
+        file.extend_from_slice(bytes)?;
+    }
+    Ok(())
+}
+
 fn push_parts(file: &mut Vec<u8>, parts: &[Part]) -> Result<(), AllocError> {
     for Part(times, bytes) in parts {
-        for _ in 0..*times {
-            file.extend_from_slice(bytes)?;
-        }
+        push_repeated(file, *times, bytes)?;
     }
     Ok(())
 }

@@ -7,10 +7,17 @@ use std::io;
 use tallies::latin1::Latin1;
 use tallies::tally::Tally;
 
+// Writes a byte over the one at a place, if there is one.
+fn put_byte(file: &mut Vec<u8>, at: usize, byte: u8) {
+    if let Some(kept) = file.get_mut(at) {
+        *kept = byte;
+    }
+}
+
 // Writes bytes over those from `start` on; what would stand behind the end is left out.
 fn overwrite(file: &mut Vec<u8>, start: usize, bytes: &[u8]) {
-    for (kept, byte) in file.iter_mut().skip(start).zip(bytes) {
-        *kept = *byte;
+    for (number, byte) in bytes.iter().enumerate() {
+        put_byte(file, start.saturating_add(number), *byte);
     }
 }
 
