@@ -6,6 +6,26 @@ use explorer::until::holds_until;
 use generator::text::{Form, Spelled};
 use std::alloc::AllocError;
 
+// The positions from which no step leads to one without p.
+fn every_next(graph: &Graph, p: &PositionSet) -> Result<PositionSet, AllocError> {
+    let without = graph.complement(p)?;
+    let broken = graph.before(&without)?;
+    graph.complement(&broken)
+}
+
+// The positions from which no route comes to one without p.
+fn every_always(graph: &Graph, p: &PositionSet) -> Result<PositionSet, AllocError> {
+    let without = graph.complement(p)?;
+    let broken = holds_until(graph, graph.everywhere(), &without)?;
+    graph.complement(&broken)
+}
+
+// The positions from which no route breaks p until q.
+fn every_until(graph: &Graph, p: &PositionSet, q: &PositionSet) -> Result<PositionSet, AllocError> {
+    let broken = breaks_until(graph, p, q)?;
+    graph.complement(&broken)
+}
+
 // The positions where a form holds, from those of the earlier forms.
 fn work_form(graph: &Graph, done: &[PositionSet], form: Form) -> Result<PositionSet, AllocError> {
     let part = |number: usize| done.get(number).unwrap_or(graph.nowhere());
@@ -21,16 +41,10 @@ fn work_form(graph: &Graph, done: &[PositionSet], form: Form) -> Result<Position
         Form::SomeFuture(q) => holds_until(graph, all, part(q)),
         Form::SomeAlways(p) => holds_always(graph, part(p)),
         Form::SomeUntil(p, q) => holds_until(graph, part(p), part(q)),
-        Form::EveryNext(p) => {
-            let without = graph.complement(part(p))?;
-            graph.complement(&graph.before(&without)?)
-        }
-        Form::EveryFuture(q) => graph.complement(&breaks_until(graph, all, part(q))?),
-        Form::EveryAlways(p) => {
-            let without = graph.complement(part(p))?;
-            graph.complement(&holds_until(graph, all, &without)?)
-        }
-        Form::EveryUntil(p, q) => graph.complement(&breaks_until(graph, part(p), part(q))?),
+        Form::EveryNext(p) => every_next(graph, part(p)),
+        Form::EveryFuture(q) => every_until(graph, all, part(q)),
+        Form::EveryAlways(p) => every_always(graph, part(p)),
+        Form::EveryUntil(p, q) => every_until(graph, part(p), part(q)),
     }
 }
 
