@@ -7,12 +7,9 @@ use routing::network::Network;
 
 // Whether some binding before a binding joins the same places.
 fn has_parallel<N: Network>(net: &N, number: usize, b: &Binding<N::Set>) -> bool {
-    for before in (0..number).filter_map(|number| net.binding(number)) {
-        if before.from == b.from && before.to == b.to {
-            return true;
-        }
-    }
-    false
+    (0..number)
+        .filter_map(|number| net.binding(number))
+        .any(|before| before.from == b.from && before.to == b.to)
 }
 
 // Counts a network with self-loops, with empty sets, with parallel bindings.
