@@ -1,6 +1,6 @@
 // A refusal in words.
 use crate::problem::Source;
-use crate::text::Printable;
+use explanation::text::Printable;
 use plan::fault::{FileFault, FileFaultKind, PlanFault};
 use plan::file::rules::rule_text;
 use rule_text::fault::{Fault, FaultKind};

@@ -1,10 +1,10 @@
 // A run of the program.
 use crate::command::{Command, Request, read_words};
-use crate::explain::explained;
 use crate::help::HELP;
 use crate::input::{Input, read_source};
 use crate::problem::Problem;
 use crate::refused::RefusedPlan;
+use explanation::explain::explained;
 use report::file::report_front;
 use std::env;
 use std::io::Write;

@@ -1,7 +1,6 @@
 // The report of a plan for people: below the line of each rule its text, its words, and the route that breaks it.
 use crate::breaking::{Breaking, BreakingRoute};
 use crate::part::Part;
-use crate::problem::Problem;
 use crate::text::Printable;
 use crate::work::Work;
 use conditions::set::ConditionSet;
@@ -96,7 +95,7 @@ fn add_rule(out: &mut String, work: &mut Work<'_>, number: usize) -> Result<(), 
 }
 
 // The lines of the report of a plan file, each with what explains it.
-pub(crate) fn explained(heap: Global, file: &[u8], report: &[u8]) -> Result<String, Problem> {
+pub fn explained(heap: Global, file: &[u8], report: &[u8]) -> Result<String, AllocError> {
     let lines = String::from_utf8_lossy(heap, report)?;
     let mut out = String::new(heap);
     let Ok(plan) = PlanFile::open(file) else {

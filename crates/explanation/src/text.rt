@@ -3,7 +3,7 @@ use std::fmt;
 
 // A text as it is printed, with `?` for each byte that is no printable ASCII.
 #[derive(Clone, Copy)]
-pub(crate) struct Printable<'a>(pub(crate) &'a [u8]);
+pub struct Printable<'a>(pub &'a [u8]);
 
 impl fmt::Display for Printable<'_> {
     fn fmt<W: fmt::Write>(&self, f: &mut fmt::Formatter<W>) -> fmt::Result {

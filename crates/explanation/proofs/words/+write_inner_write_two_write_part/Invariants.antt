@@ -1,5 +1,5 @@
 -- A part calls for two parts, these for each part, and a part for one at an earlier row.
-use Rattle.console.proofs.words.+write_inner_write_two_write_part.Given as goal
+use Rattle.explanation.proofs.words.+write_inner_write_two_write_part.Given as goal
 use Rattle.std.proofs.Common.{◌+◌, ◌*◌}
 
 abbrev pub decreases-write_inner : goal.decreases-write_inner

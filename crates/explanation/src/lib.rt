@@ -1,0 +1,10 @@
+// The explanation of a plan's report, for people: what the rules say in words, and the routes that break them.
+#![tactic(auto)]
+
+mod breaking;
+pub mod explain;
+mod part;
+mod phrase;
+pub mod text;
+mod words;
+mod work;
