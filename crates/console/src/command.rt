@@ -26,6 +26,15 @@ struct Options {
 }
 
 impl Options {
+    // Takes the plan that a word names.
+    fn add_plan(&mut self, word: String) -> Result<(), Problem> {
+        if self.source.is_some() {
+            return Err(Problem::SecondPlan(word));
+        }
+        self.source = Some(Source::from(word));
+        Ok(())
+    }
+
     // Takes the next word into account.
     fn add(&mut self, word: String) -> Result<(), Problem> {
         match word.as_str() {
@@ -34,8 +43,7 @@ impl Options {
             other if other.starts_with('-') && other != "-" => {
                 return Err(Problem::UnknownOption(word));
             }
-            _ if self.source.is_some() => return Err(Problem::SecondPlan(word)),
-            _ => self.source = Some(Source::from(word)),
+            _ => return self.add_plan(word),
         }
         Ok(())
     }

@@ -37,19 +37,35 @@ impl From<String> for Source {
     }
 }
 
-impl fmt::Display for Source {
-    fn fmt<W: fmt::Write>(&self, f: &mut fmt::Formatter<W>) -> fmt::Result {
+impl Source {
+    fn name(&self) -> &str {
         match self {
-            Source::Stdin => write!(f, "standard input"),
-            Source::File(name) => write!(f, "{name}"),
+            Source::Stdin => "standard input",
+            Source::File(name) => name,
         }
     }
+}
+
+impl fmt::Display for Source {
+    fn fmt<W: fmt::Write>(&self, f: &mut fmt::Formatter<W>) -> fmt::Result {
+        f.write_str(self.name())
+    }
+}
+
+// Writes what cannot be done to what, and what the system says of it.
+fn write_error<W: fmt::Write>(
+    f: &mut fmt::Formatter<W>,
+    what: &str,
+    done: &str,
+    error: &io::Error,
+) -> fmt::Result {
+    write!(f, "{what} cannot be {done}: {error}")
 }
 
 impl fmt::Display for Problem {
     fn fmt<W: fmt::Write>(&self, f: &mut fmt::Formatter<W>) -> fmt::Result {
         match self {
-            Problem::NoWords(error) => write!(f, "the command line cannot be read: {error}"),
+            Problem::NoWords(error) => write_error(f, "the command line", "read", error),
             Problem::UnknownOption(word) => write!(
                 f,
                 "there is no option {word}; --help says what there is"
@@ -58,12 +74,12 @@ impl fmt::Display for Problem {
                 f,
                 "{name} is a second plan; one plan is read at a time"
             ),
-            Problem::Unopened(name, error) => write!(f, "{name} cannot be opened: {error}"),
-            Problem::Unread(source, error) => write!(f, "{source} cannot be read: {error}"),
+            Problem::Unopened(name, error) => write_error(f, name, "opened", error),
+            Problem::Unread(source, error) => write_error(f, source.name(), "read", error),
             Problem::Uncounted(source) => write!(f, "{source} is too long to be counted"),
             Problem::Refused(plan) => write!(f, "{plan}"),
-            Problem::Unwritten(error) => write!(f, "standard output cannot be written: {error}"),
-            Problem::NoMemory => write!(f, "there is not enough memory"),
+            Problem::Unwritten(error) => write_error(f, "standard output", "written", error),
+            Problem::NoMemory => f.write_str("there is not enough memory"),
         }
     }
 }

@@ -48,7 +48,12 @@ fn write_file_fault<W: fmt::Write>(f: &mut fmt::Formatter<W>, fault: FileFault) 
     write!(f, "{words} (refusal {number}, {at} {})", fault.byte)
 }
 
-// Writes what is wrong, the text on a line, and on the next a caret below the byte.
+// Writes the text on a line, and on the next a caret below the byte.
+fn write_caret<W: fmt::Write>(f: &mut fmt::Formatter<W>, text: &[u8], byte: usize) -> fmt::Result {
+    write!(f, "\n  {}\n  {:byte$}^", Printable(text), "")
+}
+
+// Writes what is wrong, and the text with a caret below the byte.
 fn write_text_fault<W: fmt::Write>(
     f: &mut fmt::Formatter<W>,
     rule: usize,
@@ -62,7 +67,7 @@ fn write_text_fault<W: fmt::Write>(
         f,
         "{words} (refusal {number}, in rule {rule}, at byte {byte} of its text)"
     )?;
-    write!(f, "\n  {}\n  {:byte$}^", Printable(text), "")
+    write_caret(f, text, byte)
 }
 
 impl fmt::Display for RefusedPlan {

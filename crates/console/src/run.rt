@@ -14,6 +14,20 @@ fn print(rt: &HostRuntime, bytes: &[u8]) -> Result<(), Problem> {
     rt.stdout().write_all(bytes).map_err(Problem::Unwritten)
 }
 
+// Prints the report of a plan file, with what explains it if that is asked for.
+fn print_report(
+    rt: &HostRuntime,
+    file: &[u8],
+    report: &[u8],
+    explain: bool,
+) -> Result<(), Problem> {
+    if !explain {
+        return print(rt, report);
+    }
+    let words = explained(rt.alloc(), file, report)?;
+    print(rt, words.as_bytes())
+}
+
 fn check(rt: &HostRuntime, request: Request) -> Result<(), Problem> {
     let Request { source, explain } = request;
     let Input {
@@ -24,19 +38,15 @@ fn check(rt: &HostRuntime, request: Request) -> Result<(), Problem> {
     let Some(report) = report_front(&front, behind) else {
         return Err(Problem::Uncounted(source));
     };
-    if let Some(fault) = report.fault() {
-        print(rt, report.text())?;
-        return Err(Problem::Refused(RefusedPlan {
-            source,
-            file: front,
-            fault,
-        }));
-    }
-    if !explain {
-        return print(rt, report.text());
-    }
-    let words = explained(rt.alloc(), &front, report.text())?;
-    print(rt, words.as_bytes())
+    let Some(fault) = report.fault() else {
+        return print_report(rt, &front, report.text(), explain);
+    };
+    print(rt, report.text())?;
+    Err(Problem::Refused(RefusedPlan {
+        source,
+        file: front,
+        fault,
+    }))
 }
 
 fn serve(rt: &HostRuntime) -> Result<(), Problem> {
