@@ -1,46 +1,61 @@
 // What command lines ask for, and what is said of those that ask for nothing.
 use super::{Command, Options};
 use crate::problem::Problem;
+use std::alloc::{AllocError, Global};
+use std::process::Abort;
 use std::test::Fail;
 
+// Words, and what they ask for.
+type Case = (&'static [&'static str], &'static str);
+
+const PLANS: [Case; 6] = [
+    (&[], "standard input false"),
+    (&["-"], "standard input false"),
+    (&["a.plan"], "a.plan false"),
+    (&["--explain"], "standard input true"),
+    (&["a.plan", "--explain"], "a.plan true"),
+    (&["--help", "a.plan"], "help"),
+];
+
+const WRONG_WORDS: [Case; 2] = [
+    (
+        &["--explian", "a.plan"],
+        "there is no option --explian; --help says what there is",
+    ),
+    (
+        &["a.plan", "b.plan"],
+        "b.plan is a second plan; one plan is read at a time",
+    ),
+];
+
 // What the words ask for, as text: `help`, or the source and whether it is explained.
-fn asked(rt: &HostRuntime, words: &[&str]) -> Result<String, Fail> {
-    let heap = rt.alloc();
+fn asked(heap: Global, words: &[&str]) -> Result<String, AllocError> {
     let mut options = Options::default();
     for word in words {
         if let Err(problem) = options.add(word.to_string(heap)?) {
-            return Ok(format!(in heap; "{problem}")?);
+            return format!(in heap; "{problem}");
         }
     }
-    Ok(match options.command() {
-        Command::Help => format!(in heap; "help")?,
-        Command::Check(request) => format!(in heap; "{} {}", request.source, request.explain)?,
-    })
+    match options.command() {
+        Command::Help => "help".to_string(heap),
+        Command::Check(request) => format!(in heap; "{} {}", request.source, request.explain),
+    }
+}
+
+fn check_cases(rt: &impl Abort, heap: Global, cases: &[Case]) -> Result<(), Fail> {
+    for (words, wanted) in cases {
+        let found = asked(heap, words)?;
+        assert_eq!(rt; found.as_str(), *wanted);
+    }
+    Ok(())
 }
 
 #[test]
 fn plans(rt: HostRuntime) -> Result<(), Fail> {
-    assert_eq!(rt; asked(&rt, &[])?.as_str(), "standard input false");
-    assert_eq!(rt; asked(&rt, &["-"])?.as_str(), "standard input false");
-    assert_eq!(rt; asked(&rt, &["a.plan"])?.as_str(), "a.plan false");
-    assert_eq!(rt; asked(&rt, &["--explain"])?.as_str(), "standard input true");
-    assert_eq!(rt;
-        asked(&rt, &["a.plan", "--explain"])?.as_str(),
-        "a.plan true"
-    );
-    assert_eq!(rt; asked(&rt, &["--help", "a.plan"])?.as_str(), "help");
-    Ok(())
+    check_cases(&rt, rt.alloc(), &PLANS)
 }
 
 #[test]
 fn wrong_words(rt: HostRuntime) -> Result<(), Fail> {
-    assert_eq!(rt;
-        asked(&rt, &["--explian", "a.plan"])?.as_str(),
-        "there is no option --explian; --help says what there is"
-    );
-    assert_eq!(rt;
-        asked(&rt, &["a.plan", "b.plan"])?.as_str(),
-        "b.plan is a second plan; one plan is read at a time"
-    );
-    Ok(())
+    check_cases(&rt, rt.alloc(), &WRONG_WORDS)
 }

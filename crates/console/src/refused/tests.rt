@@ -12,6 +12,31 @@ const FRONT: [u8; 44] = [
     0, 0, 0, 1, 0, 1, 0, 0, 0, 0, 0, 0, 0,
 ];
 
+// A byte of the plan by its number, another byte in its place, and the sentence.
+const FILES: [(usize, u8, &str); 5] = [
+    (24, 1, ""),
+    (
+        3,
+        1,
+        "a.plan is refused: a count or a text's length is over its limit (refusal 9, at byte 2)",
+    ),
+    (
+        12,
+        33,
+        "a.plan is refused: a contents entry has another kind or start than it should (refusal 6, at byte 12)",
+    ),
+    (
+        34,
+        2,
+        "a.plan is refused: a binding end is not a place (refusal 8, at byte 34)",
+    ),
+    (
+        44,
+        3,
+        "a.plan is refused: the file is cut or too long (refusal 7, at its end, byte 48)",
+    ),
+];
+
 // The plan with this text.
 fn plan_of(heap: Global, text: &[u8]) -> Result<Vec<u8>, AllocError> {
     let length = u16::try_from(text.len()).unwrap_or(u16::MAX).to_le_bytes();
@@ -20,7 +45,7 @@ fn plan_of(heap: Global, text: &[u8]) -> Result<Vec<u8>, AllocError> {
 }
 
 // The sentence of a refused file; empty where it is not refused.
-fn said(heap: Global, file: Vec<u8>) -> Result<String, Fail> {
+fn said(heap: Global, file: Vec<u8>) -> Result<String, AllocError> {
     let Some(fault) = report(&file).fault() else {
         return Ok(String::new(heap));
     };
@@ -30,25 +55,27 @@ fn said(heap: Global, file: Vec<u8>) -> Result<String, Fail> {
         file,
         fault,
     };
-    Ok(format!(in heap; "{refused}")?)
+    format!(in heap; "{refused}")
 }
 
-// The sentence of a plan with this text begins so, and ends with the text above a caret below the byte.
+// The sentence of a plan with this text, which ends with the text above a caret below the byte.
+fn text_sentence(heap: Global, text: &str, words: &str, byte: usize) -> Result<String, AllocError> {
+    format!(in heap;
+        "a.plan is refused: {words}, in rule 0, at byte {byte} of its text)\n  {text}\n  {:byte$}^",
+        ""
+    )
+}
+
 fn check_text(
     rt: &impl Abort,
     heap: Global,
-    text: &[u8],
+    text: &str,
     words: &str,
     byte: usize,
 ) -> Result<(), Fail> {
-    let sentence = said(heap, plan_of(heap, text)?)?;
-    let front = format!(in heap;
-        "a.plan is refused: {words}, in rule 0, at byte {byte} of its text)"
-    )?;
-    assert!(rt; sentence.starts_with(front.as_str()));
-    let shown = String::from_utf8_lossy(heap, text)?;
-    let back = format!(in heap; "\n  {shown}\n  {:byte$}^", "")?;
-    assert!(rt; sentence.ends_with(back.as_str()));
+    let found = said(heap, plan_of(heap, text.as_bytes())?)?;
+    let wanted = text_sentence(heap, text, words, byte)?;
+    assert_eq!(rt; found.as_str(), wanted.as_str());
     Ok(())
 }
 
@@ -56,24 +83,23 @@ fn check_text(
 fn texts(rt: HostRuntime) -> Result<(), Fail> {
     let heap = rt.alloc();
     let unknown = "a word is unknown, or a byte is a stray one (refusal 1";
-    check_text(&rt, heap, b"m0 $", unknown, 3)?;
+    check_text(&rt, heap, "m0 $", unknown, 3)?;
     let follows = "a word cannot follow the words before it (refusal 2";
-    check_text(&rt, heap, b"AF m1 m0", follows, 6)?;
+    check_text(&rt, heap, "AF m1 m0", follows, 6)?;
     let unfinished = "the rule is unfinished at its end (refusal 2";
-    check_text(&rt, heap, b"AF", unfinished, 2)?;
+    check_text(&rt, heap, "AF", unfinished, 2)?;
     let range = "the number of a mark or a condition is out of range (refusal 3";
-    check_text(&rt, heap, b"m0 | c6", range, 5)?;
+    check_text(&rt, heap, "m0 | c6", range, 5)?;
     let deep = "a word stands too deep, at a 33rd level (refusal 4";
-    check_text(&rt, heap, b"!!!!!!!!!!!!!!!!!!!!!!!!!!!!!!!!m0", deep, 32)?;
+    check_text(&rt, heap, "!!!!!!!!!!!!!!!!!!!!!!!!!!!!!!!!m0", deep, 32)?;
     // 17 marks and 16 times `|`.
-    let long = b"m0|m0|m0|m0|m0|m0|m0|m0|m0|m0|m0|m0|m0|m0|m0|m0|m0";
+    let long = "m0|m0|m0|m0|m0|m0|m0|m0|m0|m0|m0|m0|m0|m0|m0|m0|m0";
     let rows = "the rule has too many rows, over 32 (refusal 5";
     check_text(&rt, heap, long, rows, 50)
 }
 
 // The sentence of the plan with this byte in another byte's place.
-fn changed(rt: &HostRuntime, at: usize, byte: u8) -> Result<String, Fail> {
-    let heap = rt.alloc();
+fn changed(heap: Global, at: usize, byte: u8) -> Result<String, AllocError> {
     let mut file = plan_of(heap, b"m0")?;
     if let Some(place) = file.get_mut(at) {
         *place = byte;
@@ -83,22 +109,9 @@ fn changed(rt: &HostRuntime, at: usize, byte: u8) -> Result<String, Fail> {
 
 #[test]
 fn files(rt: HostRuntime) -> Result<(), Fail> {
-    assert_eq!(rt; changed(&rt, 24, 1)?.as_str(), "");
-    assert_eq!(rt;
-        changed(&rt, 3, 1)?.as_str(),
-        "a.plan is refused: a count or a text's length is over its limit (refusal 9, at byte 2)"
-    );
-    assert_eq!(rt;
-        changed(&rt, 12, 33)?.as_str(),
-        "a.plan is refused: a contents entry has another kind or start than it should (refusal 6, at byte 12)"
-    );
-    assert_eq!(rt;
-        changed(&rt, 34, 2)?.as_str(),
-        "a.plan is refused: a binding end is not a place (refusal 8, at byte 34)"
-    );
-    assert_eq!(rt;
-        changed(&rt, 44, 3)?.as_str(),
-        "a.plan is refused: the file is cut or too long (refusal 7, at its end, byte 48)"
-    );
+    for (at, byte, wanted) in FILES {
+        let found = changed(rt.alloc(), at, byte)?;
+        assert_eq!(rt; found.as_str(), wanted);
+    }
     Ok(())
 }
