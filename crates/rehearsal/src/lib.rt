@@ -3,5 +3,3 @@
 
 pub mod rehearse;
 mod shut;
-#[cfg(test)]
-mod tests;

@@ -5,6 +5,8 @@ ghost use Rattle.samples.specs.Worked.{WorkedCases};
 
 pub mod networks;
 #[cfg(test)]
+mod rehearsal_tests;
+#[cfg(test)]
 mod tests;
 #[cfg(test)]
 mod text_tests;
