@@ -1,28 +1,36 @@
 // Judges many drawn networks against drawn rule tables, asks for routes, and compares what judging found and
-// showed with the explorer, explicit over positions. Prints what was tried; ends with an error where
-// anything differs, or where something that was to be tried was not.
+// showed with the explorer, explicit over positions. Then reads texts and reports plan files whose answers are
+// worked out by hand. Prints what was tried; ends with an error where anything differs, or where something that
+// was to be tried was not.
 #![tactic(auto)]
 
 mod comparison;
+mod counts;
+mod file_cases;
 mod forms;
 mod kinds;
+mod latin1;
+mod outcomes;
 mod routes;
 mod space;
 mod tally;
+mod text_cases;
 mod texts;
 mod trial;
 
 use anyhow::ensure;
 use conditions::plain::Plain;
 use conditions::word::Word;
+use file_cases::try_files;
 use tally::Seen;
+use text_cases::try_texts;
 use trial::Trial;
 
 const SEED: u64 = 2_718_281_828;
 
 const NETWORKS: usize = 400;
 
-fn run(rt: &(impl AllocGlobal + Print)) -> anyhow::Result<()> {
+fn try_networks(rt: &(impl AllocGlobal + Print)) -> anyhow::Result<()> {
     let mut trial = Trial::new(rt.alloc(), SEED);
     for _ in 0..NETWORKS {
         trial.try_network::<Plain>()?;
@@ -37,5 +45,7 @@ fn run(rt: &(impl AllocGlobal + Print)) -> anyhow::Result<()> {
 }
 
 fn main(rt: HostRuntime) -> anyhow::Result<()> {
-    run(&rt)
+    try_networks(&rt)?;
+    try_texts(&rt)?;
+    try_files(&rt)
 }

@@ -1,6 +1,6 @@
 // Counts of what was tried and of what differed.
+use crate::counts::Counts;
 use std::io;
-use tallies::counts::Counts;
 
 // What is counted.
 #[derive(Clone, Copy)]
