@@ -1,4 +1,4 @@
-use Rattle.std.proofs.Common.{◌-◌, length, IfOk, subst}
+use Rattle.std.proofs.Common.{rules, ◌-◌, length, IfOk, subst}
 use Rattle.routing.specs.Net.{Net}
 use Rattle.routing.specs.Rules.{Means}
 use Rattle.tables.specs.Tables.{rule_at}
@@ -9,3 +9,6 @@ pub returns-clause-told : goal.returns-clause-told
 returns-clause-told g c =
     let rows = c.args.table.now in
     subst (λ (N : Net). IfOk c.judge_entries.result (λ j. Told N (Means N (rule_at rows (length rows - 1))) j.verdict)) c.in_ok-site.ensures.meaning c.judge_entries.ensures.told
+
+pub returns-clause-refusal : goal.returns-clause-refusal
+returns-clause-refusal g c = search rules
