@@ -1,7 +1,7 @@
 -- The file of a plan, part by part.
 use Rattle.std.proofs.Common.{◌≡◌, ℕ, ◌+◌, ◌*◌, List, ◌++◌, length, arith, length-append}
-use Rattle.output.specs.Put.{Put}
-use Rattle.output.proofs.Puts.{put_then}
+use Rattle.plan.specs.Put.{Put}
+use Rattle.plan.proofs.Puts.{put_then}
 use Rattle.plan.specs.Numbers.{bytes_of}
 use Rattle.plan.specs.Format.{Plan, contents, binding_bytes, text_bytes, rules_start, flat, encoded}
 use Rattle.plan.proofs.Flat.{length_flat}

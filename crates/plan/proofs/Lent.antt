@@ -5,7 +5,7 @@ use Rattle.std.proofs.lemmas.List.{get_or-map, length-map, drop_more, length-app
 use Rattle.std.proofs.lemmas.Option.{slice_get-get_or}
 use Rattle.routing.specs.Rules.{Rule}
 use Rattle.rule_text.specs.Reading.{Reading, read}
-use Rattle.output.specs.Put.{Put}
+use Rattle.plan.specs.Put.{Put}
 use Rattle.plan.specs.Format.{flat, text_bytes}
 use Rattle.plan.specs.Reading.{Each, IsRuleText}
 use Rattle.plan.specs.Writing.{lent}

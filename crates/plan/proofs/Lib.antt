@@ -11,5 +11,6 @@ mod Encoded
 mod Flat
 mod Lent
 mod Limits
+mod Puts
 mod Widths
 mod Writes

@@ -3,8 +3,8 @@ use Rattle.std.proofs.Common.{◌≡◌, ℕ, ◌+◌, ◌<◌, ◌≤◌, List,
 use Rattle.std.proofs.lemmas.List.{take_all, take-append-drop}
 use Rattle.conditions.specs.declared.word.Word.{Word}
 use Rattle.routing.specs.declared.binding.Binding.{Binding}
-use Rattle.output.specs.Put.{Put}
-use Rattle.output.proofs.Puts.{put_then}
+use Rattle.plan.specs.Put.{Put}
+use Rattle.plan.proofs.Puts.{put_then}
 use Rattle.plan.specs.Format.{entry, contents, binding_bytes, text_bytes, flat}
 use Rattle.plan.proofs.Flat.{flat_append, flat_more}
 use Rattle.plan.proofs.Widths.{length_bytes_of}

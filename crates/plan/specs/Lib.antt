@@ -1,5 +1,6 @@
 pub mod Numbers
 pub mod Format
+pub mod Put
 pub mod Contents
 pub mod Faults
 pub mod Shape

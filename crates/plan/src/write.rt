@@ -1,8 +1,8 @@
 // Writing the file of a plan.
 ghost use Rattle.std.specs.Prelude.{◌≡◌, ◌+◌, ◌^◌, ◌<◌, ◌≤◌, length, IfOk, MatchResult};
 ghost use Rattle.std.specs.Result.{result_err};
-ghost use Rattle.output.specs.Put.{Put};
 ghost use Rattle.plan.specs.Numbers.{bytes_of};
+ghost use Rattle.plan.specs.Put.{Put};
 ghost use Rattle.plan.specs.Format.{entry, contents, binding_bytes, text_bytes, flat, encoded};
 ghost use Rattle.plan.specs.Reading.{Each, IsRuleText};
 ghost use Rattle.plan.specs.Writing.{lent, plan_with, site_plan, texts_fault, BadText, Writable, Writing};
@@ -14,7 +14,6 @@ use crate::layout::{BINDING_BYTES, BINDINGS, FIRST_BODY, PLACE_BYTES, PLACES, RU
 use crate::shape::{binding_byte, check};
 use crate::text::check_text;
 use conditions::word::Word;
-use output::put;
 use routing::binding::Binding;
 use routing::site::SiteTable;
 use rule_text::read::MOST_BYTES;
@@ -51,12 +50,14 @@ fn check_texts(texts: &[&[u8]]) -> Result<(), PlanFault>
     Ok(())
 }
 
-// Writes the bytes, for which there is room, and answers the number behind them.
+// Writes the bytes to `out` from number `at` on, where there is room for them, and answers the number behind them.
 fn write(bytes: &[u8], out: &mut [u8], at: usize) -> usize
     requires { at + length bytes.now ≤ length out.old }
     ensures { Put out.old at bytes.now out.new result }
 {
-    put(out, at, bytes).unwrap()
+    let next = at + bytes.len();
+    out[at..next].copy_from_slice(bytes);
+    next
 }
 
 // Writes a contents entry.

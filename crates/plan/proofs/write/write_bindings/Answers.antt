@@ -1,7 +1,7 @@
 use Rattle.std.proofs.Common.{◌^◌, ◌<◌, get_or, arith}
 use Rattle.conditions.specs.declared.word.Word.{Word}
 use Rattle.routing.specs.declared.binding.Binding.{Binding}
-use Rattle.output.proofs.Puts.{put_nothing}
+use Rattle.plan.proofs.Puts.{put_nothing}
 use Rattle.plan.specs.Format.{flat, binding_bytes}
 use Rattle.plan.proofs.Elements.{each_none, each_more}
 use Rattle.plan.proofs.Writes.{put_more, room_next, length_binding}

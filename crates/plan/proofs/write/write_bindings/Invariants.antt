@@ -1,5 +1,5 @@
 use Rattle.std.proofs.Common.{◌^◌, ◌<◌, take}
-use Rattle.output.specs.Put.{Put}
+use Rattle.plan.specs.Put.{Put}
 use Rattle.plan.specs.Format.{flat, binding_bytes}
 use Rattle.plan.specs.Reading.{Each}
 use Rattle.plan.proofs.write.write_bindings.Given as goal

@@ -1,5 +1,5 @@
 use Rattle.std.proofs.Common.{◌^◌, ◌<◌, length, sym, ap, ◌∙◌, arith}
-use Rattle.output.proofs.Puts.{put_nothing}
+use Rattle.plan.proofs.Puts.{put_nothing}
 use Rattle.plan.specs.Numbers.{bytes_of}
 use Rattle.plan.specs.Format.{flat}
 use Rattle.plan.proofs.Elements.{each_from_getD}

@@ -1,5 +1,5 @@
 use Rattle.std.proofs.Common.{take}
-use Rattle.output.specs.Put.{Put}
+use Rattle.plan.specs.Put.{Put}
 use Rattle.plan.specs.Numbers.{bytes_of}
 use Rattle.plan.specs.Format.{flat}
 use Rattle.plan.proofs.write.write_marks.Given as goal

@@ -7,7 +7,7 @@ use Rattle.routing.specs.Refusals.{all_inside}
 use Rattle.routing.specs.Sites.{site_records}
 use Rattle.routing.specs.Fitting.{nth_link, link_inside}
 use Rattle.plan.specs.declared.fault.FileFault.{FileFault}
-use Rattle.output.specs.Put.{Put}
+use Rattle.plan.specs.Put.{Put}
 use Rattle.plan.specs.Format.{Plan, encoded, rules_start}
 use Rattle.plan.specs.Reading.{Each, BindingFits}
 use Rattle.plan.specs.Writing.{lent, limits_fault, plan_with, site_plan, texts_fault}

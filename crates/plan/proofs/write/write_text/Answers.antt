@@ -1,5 +1,5 @@
 use Rattle.std.proofs.Common.{length, sym, ap, ◌∙◌, arith}
-use Rattle.output.proofs.Puts.{put_then}
+use Rattle.plan.proofs.Puts.{put_then}
 use Rattle.plan.proofs.Widths.{bytes_of_2}
 use Rattle.plan.proofs.Writes.{put_same, length_text}
 use Rattle.plan.proofs.write.write_text.Goals as goal

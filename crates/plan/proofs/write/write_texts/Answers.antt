@@ -1,5 +1,5 @@
 use Rattle.std.proofs.Common.{arith}
-use Rattle.output.proofs.Puts.{put_nothing}
+use Rattle.plan.proofs.Puts.{put_nothing}
 use Rattle.plan.specs.Format.{flat}
 use Rattle.plan.proofs.Lent.{room_lent, put_lent, short_lent}
 use Rattle.plan.proofs.write.write_texts.Goals as goal

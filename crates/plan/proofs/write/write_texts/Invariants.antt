@@ -1,5 +1,5 @@
 use Rattle.std.proofs.Common.{take}
-use Rattle.output.specs.Put.{Put}
+use Rattle.plan.specs.Put.{Put}
 use Rattle.plan.specs.Format.{flat, text_bytes}
 use Rattle.plan.specs.Writing.{lent}
 use Rattle.plan.proofs.write.write_texts.Given as goal

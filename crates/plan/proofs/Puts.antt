@@ -1,6 +1,6 @@
 -- Writing nothing, and writing one thing behind another.
 use Rattle.std.proofs.Common.{◌≡◌, ℕ, ◌+◌, ◌≤◌, List, [], ◌++◌, length, take, drop, sym, refl, ap, ◌∙◌, append_assoc, append-nil, arith, length-append, length-take, drop-drop}
-use Rattle.output.specs.Put.{Put}
+use Rattle.plan.specs.Put.{Put}
 
 -- Nothing is written.
 pub put_nothing : (before : List ℕ) (at : ℕ) → Put before at [] before at

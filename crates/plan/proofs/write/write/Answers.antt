@@ -1,6 +1,6 @@
 use Rattle.std.proofs.Common.{◌≡◌, ◌++◌, length, take, refl, ap, ◌∙◌, arith}
 use Rattle.std.proofs.lemmas.Slice.{take-put_mid, drop-put_mid}
-use Rattle.output.proofs.put.Goals as goal
+use Rattle.plan.proofs.write.write.Goals as goal
 
 pub returns : goal.returns
 returns c =
