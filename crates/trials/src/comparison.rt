@@ -1,9 +1,9 @@
 // What judging wrote and answered, compared with what the explorer found.
+use crate::explorer::graph::Graph;
+use crate::explorer::positions::PositionSet;
+use crate::explorer::rows::{Rows, failing_entry};
 use crate::tally::{Seen, Tally};
 use conditions::set::ConditionSet;
-use explorer::graph::Graph;
-use explorer::positions::PositionSet;
-use explorer::rows::{Rows, failing_entry};
 use verdicts::verdict::Verdict;
 
 // Whether what judging wrote for a place differs at a position of it from whether the row holds there.
@@ -57,13 +57,10 @@ pub fn compare_main<S: ConditionSet>(rows: &Rows, main: &[S], tally: &mut Tally)
         count_positions(graph, &found.held, tally);
     }
     let all = S::all();
-    let rest = main
-        .iter()
-        .skip(rows.found.len().saturating_mul(graph.places()));
-    tally.add(
-        Seen::WrongRest,
-        rest.filter(|set| !set.same_members(&all)).count(),
-    );
+    let written = rows.found.len().saturating_mul(graph.places());
+    for set in main.iter().skip(written) {
+        tally.add_if(Seen::WrongRest, !set.same_members(&all));
+    }
 }
 
 // Compares the rounds that judging answered with the sum over the rows.

@@ -1,9 +1,9 @@
 // The forms of a rule, each from its own definition; an A form by a route or a step that breaks it.
-use explorer::always::{breaks_until, holds_always};
-use explorer::graph::Graph;
-use explorer::positions::PositionSet;
-use explorer::until::holds_until;
-use generator::text::{Form, Spelled};
+use crate::explorer::always::{breaks_until, holds_always};
+use crate::explorer::graph::Graph;
+use crate::explorer::positions::PositionSet;
+use crate::explorer::until::holds_until;
+use crate::generator::text::{Form, Spelled};
 use std::alloc::AllocError;
 
 // The positions from which no step leads to one without p.

@@ -1,15 +1,20 @@
 // Which kinds of network a network is of.
+use crate::explorer::graph::Graph;
 use crate::tally::{Seen, Tally};
 use conditions::set::ConditionSet;
-use explorer::graph::Graph;
 use routing::binding::Binding;
 use routing::network::Network;
 
 // Whether some binding before a binding joins the same places.
 fn has_parallel<N: Network>(net: &N, number: usize, b: &Binding<N::Set>) -> bool {
-    (0..number)
-        .filter_map(|number| net.binding(number))
-        .any(|before| before.from == b.from && before.to == b.to)
+    for number in 0..number {
+        if let Some(before) = net.binding(number) {
+            if before.from == b.from && before.to == b.to {
+                return true;
+            }
+        }
+    }
+    false
 }
 
 // Counts a network with self-loops, with empty sets, with parallel bindings.

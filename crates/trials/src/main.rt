@@ -6,8 +6,10 @@
 
 mod comparison;
 mod counts;
+mod explorer;
 mod file_cases;
 mod forms;
+mod generator;
 mod kinds;
 mod latin1;
 mod outcomes;

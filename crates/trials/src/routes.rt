@@ -1,11 +1,11 @@
 // Routes that judging shows, compared with what the explorer found.
+use crate::explorer::graph::Graph;
+use crate::explorer::positions::PositionSet;
+use crate::explorer::rows::{Found, Rows};
+use crate::explorer::until::hops_to;
 use crate::space::Space;
 use crate::tally::{Seen, Tally};
 use conditions::set::ConditionSet;
-use explorer::graph::Graph;
-use explorer::positions::PositionSet;
-use explorer::rows::{Found, Rows};
-use explorer::until::hops_to;
 use judging::route::route;
 use judging::shown::{Ending, RouteStep, Shown};
 use routing::network::Network;
@@ -206,11 +206,9 @@ impl<'a> Query<'a> {
                 0
             }
         };
-        let rest = steps.iter().skip(written);
-        tally.add(
-            Seen::WrongSteps,
-            rest.filter(|step| **step != BLANK).count(),
-        );
+        for step in steps.iter().skip(written) {
+            tally.add_if(Seen::WrongSteps, *step != BLANK);
+        }
     }
 }
 

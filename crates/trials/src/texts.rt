@@ -1,11 +1,11 @@
 // Rules as text, read and judged, compared with what the explorer found of their forms.
 use crate::comparison::count_wrong;
+use crate::explorer::graph::Graph;
+use crate::explorer::positions::PositionSet;
 use crate::forms::work_forms;
+use crate::generator::text::{Form, Spelled};
 use crate::space::Space;
 use crate::tally::{Seen, Tally};
-use explorer::graph::Graph;
-use explorer::positions::PositionSet;
-use generator::text::{Form, Spelled};
 use judging::judge::judge;
 use routing::network::Network;
 use rule_text::fault::FaultKind;

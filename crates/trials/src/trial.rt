@@ -1,18 +1,18 @@
 // Drawn networks, each tried with drawn tables and texts.
 use crate::comparison::{compare_main, compare_rounds, compare_verdict};
+use crate::explorer::graph::Graph;
+use crate::explorer::rows::{Found, Rows};
+use crate::generator::network::draw_network;
+use crate::generator::random::Random;
+use crate::generator::sets::Draw;
+use crate::generator::table::draw_table;
+use crate::generator::text::draw_rule;
 use crate::kinds::count_kinds;
 use crate::routes::compare_routes;
 use crate::space::Space;
 use crate::tally::{Seen, Tally};
 use crate::texts::try_text;
 use conditions::set::ConditionSet;
-use explorer::graph::Graph;
-use explorer::rows::{Found, Rows};
-use generator::network::draw_network;
-use generator::random::Random;
-use generator::sets::Draw;
-use generator::table::draw_table;
-use generator::text::draw_rule;
 use judging::judge::judge;
 use routing::network::Network;
 use routing::site::SiteTable;

@@ -10,6 +10,8 @@ pub enum Whole {
     Empty,
     // One rule and no place: 29 bytes.
     NoPlace,
+    // One binding and no place: 36 bytes.
+    OneBinding,
     // Two places, one binding, two rules: 64 bytes.
     Trial,
     // Three places in a ring, three bindings, two rules: 90 bytes.
@@ -33,6 +35,13 @@ static NO_PLACE: [Part; 4] = [
     Part(1, b"\x02\0\0\0\x18\0\0\0"), // 8: no bindings from byte 24
     Part(1, b"\x03\0\x01\0\x18\0\0\0"), // 16: one rule from byte 24
     Part(1, b"\x03\0yes"), // 24: rule 0
+];
+
+static ONE_BINDING: [Part; 4] = [
+    Part(1, b"\x01\0\0\0\x18\0\0\0"), // 0: no places from byte 24
+    Part(1, b"\x02\0\x01\0\x18\0\0\0"), // 8: one binding from byte 24
+    Part(1, b"\x03\0\0\0\x24\0\0\0"), // 16: no rules from byte 36
+    Part(12, b"\0"), // 24: 0 to 0 never
 ];
 
 static TRIAL: [Part; 8] = [
@@ -121,6 +130,7 @@ pub fn file_bytes(heap: Global, whole: Whole) -> Result<Vec<u8>, AllocError> {
     match whole {
         Whole::Empty => push_parts(&mut file, &EMPTY)?,
         Whole::NoPlace => push_parts(&mut file, &NO_PLACE)?,
+        Whole::OneBinding => push_parts(&mut file, &ONE_BINDING)?,
         Whole::Trial => push_parts(&mut file, &TRIAL)?,
         Whole::Ring => push_parts(&mut file, &RING)?,
         Whole::Eight => push_parts(&mut file, &EIGHT)?,

@@ -1,7 +1,6 @@
 // Reads a text and compares what it gives with what it must give.
-use crate::latin1::Latin1;
 use crate::outcomes::Outcomes;
-use crate::text_cases::case::{Built, Case, Expected};
+use crate::text_cases::case::{Built, Case};
 use conditions::set::ConditionSet;
 use rule_text::read::read_rule;
 use std::alloc::{AllocError, Global};
@@ -30,39 +29,37 @@ impl fmt::Display for Rows<'_> {
 // What reading the text gives, spelled; it is counted.
 fn outcome<S: ConditionSet>(
     heap: Global,
-    text: &[u8],
+    text: &str,
     outcomes: &mut Outcomes,
 ) -> Result<String, AllocError> {
-    match read_rule::<S>(text) {
+    match read_rule::<S>(text.as_bytes()) {
         Ok(table) => {
             outcomes.add(None);
             Rows(table.rows()).to_string(heap)
         }
         Err(fault) => {
             outcomes.add(Some(fault.number()));
-            Expected::Refused(fault.number(), fault.byte).to_string(heap)
+            format!(in heap; "refused {} at byte {}", fault.number(), fault.byte)
         }
     }
 }
 
-fn print_difference(rt: &impl Print, text: &[u8], expected: &str, got: &str) -> io::Result<()> {
-    println!(rt; "text: {}", Latin1(text))?;
+fn print_difference(rt: &impl Print, text: &str, expected: &str, got: &str) -> io::Result<()> {
+    println!(rt; "text: {text}")?;
     println!(rt; "  expected: {expected}")?;
     println!(rt; "  got: {got}")
 }
 
 fn try_text<S: ConditionSet>(
     rt: &HostRuntime,
-    text: &[u8],
-    expected: Expected,
+    text: &str,
+    expected: &str,
     outcomes: &mut Outcomes,
 ) -> anyhow::Result<()> {
-    let heap = rt.alloc();
-    let wanted = expected.to_string(heap)?;
-    let got = outcome::<S>(heap, text, outcomes)?;
-    if wanted != got {
+    let got = outcome::<S>(rt.alloc(), text, outcomes)?;
+    if got.as_str() != expected {
         outcomes.add_difference();
-        print_difference(rt, text, &wanted, &got)?;
+        print_difference(rt, text, expected, &got)?;
     }
     Ok(())
 }
@@ -73,7 +70,7 @@ pub fn try_cases<S: ConditionSet>(
     outcomes: &mut Outcomes,
 ) -> anyhow::Result<()> {
     for Case(text, expected) in cases {
-        try_text::<S>(rt, text, *expected, outcomes)?;
+        try_text::<S>(rt, text, expected, outcomes)?;
     }
     Ok(())
 }
@@ -85,9 +82,8 @@ pub fn try_built<S: ConditionSet>(
 ) -> anyhow::Result<()> {
     let heap = rt.alloc();
     for Built(front, times, part, back, expected) in cases {
-        let repeated = part.repeat(heap, *times)?;
-        let text = [*front, repeated.as_slice(), *back].concat(heap)?;
-        try_text::<S>(rt, &text, *expected, outcomes)?;
+        let text = format!(in heap; "{front}{}{back}", part.repeat(heap, *times)?)?;
+        try_text::<S>(rt, &text, expected, outcomes)?;
     }
     Ok(())
 }

@@ -22,8 +22,13 @@ impl PositionSet {
     ) -> Result<PositionSet, AllocError>
         requires { F.IsAlwaysCallable test }
     {
-        let members = (0..size).map(|position| test(position)).collect(heap)?;
-        Ok(PositionSet { members })
+        let mut set = PositionSet::filled(heap, size, false)?;
+        for position in 0..size {
+            if test(position) {
+                set.insert(position);
+            }
+        }
+        Ok(set)
     }
 
     pub fn contains(&self, position: usize) -> bool {

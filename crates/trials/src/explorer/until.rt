@@ -1,6 +1,6 @@
 // Some route to q, with p at every position before: backwards from all positions with q, and forwards from one position.
-use crate::graph::Graph;
-use crate::positions::PositionSet;
+use crate::explorer::graph::Graph;
+use crate::explorer::positions::PositionSet;
 use std::alloc::AllocError;
 use std::collections::VecDeque;
 

@@ -1,6 +1,6 @@
 // The rounds of a row, by their definition: the least i with T(i+1) = T(i).
-use crate::graph::Graph;
-use crate::positions::PositionSet;
+use crate::explorer::graph::Graph;
+use crate::explorer::positions::PositionSet;
 use std::alloc::AllocError;
 
 // The rounds, and the set that no longer changes.

@@ -1,13 +1,11 @@
-// The explorer: a second judge, explicit over the positions of a network, one by one. The program `trials` compares
-// judging with it.
+// The explorer: a second judge, explicit over the positions of a network, one by one.
 //
 // Of the crates that are tried it uses only the traits of networks and of condition sets, which give the steps, and the
 // operations of rows.
-#![tactic(auto)]
 
 pub mod always;
 pub mod graph;
 pub mod positions;
-pub mod rounds;
 pub mod rows;
+pub mod settled;
 pub mod until;

@@ -1,6 +1,6 @@
 // Drawn rules, each form with its text.
-use crate::random::Random;
-use crate::table::{draw_condition, draw_mark};
+use crate::generator::random::Random;
+use crate::generator::table::{draw_condition, draw_mark};
 use std::alloc::{AllocError, Global};
 use std::fmt::Write;
 

@@ -1,5 +1,5 @@
 // Drawn condition sets.
-use crate::random::Random;
+use crate::generator::random::Random;
 use conditions::plain::Plain;
 use conditions::set::ConditionSet;
 use conditions::word::Word;

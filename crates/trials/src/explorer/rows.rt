@@ -1,9 +1,9 @@
 // The rows of a table, one after the other.
-use crate::always::holds_always;
-use crate::graph::Graph;
-use crate::positions::PositionSet;
-use crate::rounds::{Settled, settle_rounds};
-use crate::until::holds_until;
+use crate::explorer::always::holds_always;
+use crate::explorer::graph::Graph;
+use crate::explorer::positions::PositionSet;
+use crate::explorer::settled::{Settled, settle_rounds};
+use crate::explorer::until::holds_until;
 use std::alloc::AllocError;
 use tables::row::Operation;
 

@@ -3,8 +3,9 @@
 // A position is a place with a setting. Positions are numbered: place × settings + setting.
 ghost use Rattle.std.specs.Prelude.{◌≤◌};
 
-use crate::positions::PositionSet;
+use crate::explorer::positions::PositionSet;
 use conditions::set::ConditionSet;
+use routing::binding::Binding;
 use routing::network::Network;
 use std::alloc::{AllocError, Global};
 use std::ops::Range;
@@ -50,13 +51,27 @@ impl Graph {
 
     // Adds the steps of each binding.
     fn add_steps<N: Network>(&mut self, net: &N) {
-        for b in (0..net.bindings()).filter_map(|number| net.binding(number)) {
-            for setting in (0..self.settings()).filter(|setting| b.set.contains(*setting)) {
-                let from = self.number(usize::from(b.from), setting);
-                if let Some(place) = self.places.get_mut(usize::from(b.to)) {
-                    place.before.insert(from);
-                }
+        for number in 0..net.bindings() {
+            if let Some(binding) = net.binding(number) {
+                self.add_steps_of(&binding);
             }
+        }
+    }
+
+    // Adds the steps of a binding.
+    fn add_steps_of<S: ConditionSet>(&mut self, binding: &Binding<S>) {
+        for setting in 0..self.settings() {
+            if binding.set.contains(setting) {
+                let from = self.number(usize::from(binding.from), setting);
+                self.add_step(from, usize::from(binding.to));
+            }
+        }
+    }
+
+    // Adds the step from a position to a place.
+    fn add_step(&mut self, from: usize, to: usize) {
+        if let Some(place) = self.places.get_mut(to) {
+            place.before.insert(from);
         }
     }
 
@@ -127,10 +142,16 @@ impl Graph {
     pub fn successor_where<F: Fn(usize) -> bool>(&self, from: usize, test: F) -> Option<usize>
         requires { F.IsAlwaysCallable test }
     {
-        (0..self.places())
-            .filter(|place| self.leads(from, *place))
-            .flat_map(|place| self.positions_of(place))
-            .find(|to| test(*to))
+        for place in 0..self.places() {
+            if self.leads(from, place) {
+                for to in self.positions_of(place) {
+                    if test(to) {
+                        return Some(to);
+                    }
+                }
+            }
+        }
+        None
     }
 
     // Whether some step leads from a position to one that passes a test.

@@ -1,6 +1,6 @@
 // Drawn networks.
-use crate::random::Random;
-use crate::sets::Draw;
+use crate::generator::random::Random;
+use crate::generator::sets::Draw;
 use routing::binding::Binding;
 use std::alloc::{AllocError, Global};
 

@@ -1,6 +1,6 @@
 // Some route that keeps to a set: depth first, to a position that rests, that is on a cycle, or that is in a set of ends.
-use crate::graph::Graph;
-use crate::positions::PositionSet;
+use crate::explorer::graph::Graph;
+use crate::explorer::positions::PositionSet;
 use std::alloc::AllocError;
 
 #[derive(Clone, Copy)]

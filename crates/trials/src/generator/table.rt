@@ -1,5 +1,5 @@
 // Drawn rule tables, which judging accepts.
-use crate::random::Random;
+use crate::generator::random::Random;
 use std::alloc::{AllocError, Global};
 use tables::row::Operation;
 
