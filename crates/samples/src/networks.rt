@@ -6,37 +6,27 @@ use conditions::word::Word;
 use routing::binding::Binding;
 use tables::row::Operation;
 
-// P: place 0 has mark 0, place 1 has mark 1.
-pub fn p_marks() -> [u32; 2]
-    ensures { result ≡ p_marks }
-{
-    [1, 2]
-}
-
-// P: 0 to 1 while condition 0 is on.
-pub fn p_bindings() -> [Binding<Word>; 1]
-    ensures { result ≡ p_records }
+// The marks and bindings of P: place 0 has mark 0, place 1 has mark 1; 0 to 1 while condition 0 is on.
+pub fn network_p() -> ([u32; 2], [Binding<Word>; 1])
+    ensures marks { result.0 ≡ p_marks }
+    ensures bindings { result.1 ≡ p_records }
 {
     let on = Word(0xAAAA_AAAA_AAAA_AAAA);
-    [Binding {
+    let binding = Binding {
         from: 0,
         to: 1,
         set: on,
-    }]
+    };
+    ([1, 2], [binding])
 }
 
-// L: place 0 has mark 0, place 2 has mark 1.
-pub fn l_marks() -> [u32; 3]
-    ensures { result ≡ l_marks }
+// The marks and bindings of L: place 0 has mark 0, place 2 has mark 1; 0 to 1 always, 1 to 2 while condition 0 is on, 1 to 0
+// while it is off.
+pub fn network_l() -> ([u32; 3], [Binding<Word>; 3])
+    ensures marks { result.0 ≡ l_marks }
+    ensures bindings { result.1 ≡ l_records }
 {
-    [1, 0, 2]
-}
-
-// L: 0 to 1 always, 1 to 2 while condition 0 is on, 1 to 0 while it is off.
-pub fn l_bindings() -> [Binding<Word>; 3]
-    ensures { result ≡ l_records }
-{
-    [
+    let bindings = [
         Binding {
             from: 0,
             to: 1,
@@ -52,7 +42,8 @@ pub fn l_bindings() -> [Binding<Word>; 3]
             to: 0,
             set: Word(0x5555_5555_5555_5555),
         },
-    ]
+    ];
+    ([1, 0, 2], bindings)
 }
 
 // AF m1: m1, not, some route keeps to it, not.

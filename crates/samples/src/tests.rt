@@ -29,7 +29,7 @@ fn check_verdict(
 
 #[test]
 fn trial_network_p(rt: HostRuntime) -> Result<(), Fail> {
-    let (marks, records) = (networks::p_marks(), networks::p_bindings());
+    let (marks, records) = networks::network_p();
     let table = networks::AF_M1.map(Row::from);
     check_verdict(&rt, &marks, &records, &table, Verdict::Breaks(0, 0), 1)?;
     let table = networks::EF_M1_OR_NOT_C0.map(Row::from);
@@ -38,7 +38,7 @@ fn trial_network_p(rt: HostRuntime) -> Result<(), Fail> {
 
 #[test]
 fn trial_network_l(rt: HostRuntime) -> Result<(), Fail> {
-    let (marks, records) = (networks::l_marks(), networks::l_bindings());
+    let (marks, records) = networks::network_l();
     let table = networks::AF_M1.map(Row::from);
     check_verdict(&rt, &marks, &records, &table, Verdict::Breaks(0, 0), 1)?;
     let table = networks::AG_EF_M1.map(Row::from);
@@ -63,13 +63,9 @@ fn no_places(rt: HostRuntime) -> Result<(), Fail> {
 fn short_list(rt: HostRuntime) {
     let mut main = [Word(7); 11];
     let mut spare = [Word(7); 6];
-    let judged = judge_site(
-        &networks::l_marks(),
-        &networks::l_bindings(),
-        &networks::AF_M1.map(Row::from),
-        &mut main,
-        &mut spare,
-    );
+    let (marks, records) = networks::network_l();
+    let table = networks::AF_M1.map(Row::from);
+    let judged = judge_site(&marks, &records, &table, &mut main, &mut spare);
     assert_eq!(rt; judged.err(), Some(Refusal::TooShort));
     assert_eq!(rt; judged.err().map(|refusal| refusal.number()), Some(14));
     assert_eq!(rt; main, [Word(7); 11]);

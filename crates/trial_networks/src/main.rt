@@ -157,7 +157,8 @@ fn main(rt: HostRuntime) -> io::Result<()> {
         &networks::AF_M1.map(Row::from),
         &networks::EF_M1_OR_NOT_C0.map(Row::from),
     ];
-    print_network(&rt, &networks::p_marks(), &networks::p_bindings(), &rules)?;
+    let (marks, records) = networks::network_p();
+    print_network(&rt, &marks, &records, &rules)?;
     println!(rt;
         "Network L: 0 (mark 0) to 1 always, 1 to 2 (mark 1) while c0 is on, 1 to 0 while it is off. Rules: 0 AF m1, 1 AG EF m1, 2 EF m1"
     )?;
@@ -166,5 +167,6 @@ fn main(rt: HostRuntime) -> io::Result<()> {
         &networks::AG_EF_M1.map(Row::from),
         &networks::EF_M1.map(Row::from),
     ];
-    print_network(&rt, &networks::l_marks(), &networks::l_bindings(), &rules)
+    let (marks, records) = networks::network_l();
+    print_network(&rt, &marks, &records, &rules)
 }
