@@ -2,7 +2,7 @@
 use crate::part::Part;
 use tables::row::Operation;
 
-#[derive(Clone, Copy)]
+#[derive(Drop)]
 pub(crate) enum Phrase<'a> {
     Yes,
     Mark(u8),
@@ -49,18 +49,23 @@ fn every_until<'a>(until: Part<'a>, always: Part<'a>) -> Option<Phrase<'a>> {
     Some(Phrase::OfTwo("every route has ", p, " until it comes to ", q))
 }
 
+// Words, and the part that is negated; absent where the part is no `not`.
+fn of_negated<'a>(words: &'static str, part: Part<'a>) -> Option<Phrase<'a>> {
+    Some(Phrase::Of(words, part.negated()?))
+}
+
 // The phrase of a rule about every step or route, which is "not p" for a p of this shape.
 fn every(p: Part<'_>) -> Option<Phrase<'_>> {
-    Some(match p.operation()? {
-        Operation::Next(q) if p.at(q).says_yes() => Phrase::Fact("no step leads on"),
-        Operation::Next(q) => Phrase::Of("every step leads to ", p.at(q).negated()?),
-        Operation::Always(q) => Phrase::Of("every route comes to ", p.at(q).negated()?),
+    match p.operation()? {
+        Operation::Next(q) if p.at(q).says_yes() => Some(Phrase::Fact("no step leads on")),
+        Operation::Next(q) => of_negated("every step leads to ", p.at(q)),
+        Operation::Always(q) => of_negated("every route comes to ", p.at(q)),
         Operation::Until(before, q) if p.at(before).says_yes() => {
-            Phrase::Of("every position of every route has ", p.at(q).negated()?)
+            of_negated("every position of every route has ", p.at(q))
         }
-        Operation::Or(until, always) => every_until(p.at(until), p.at(always))?,
-        _ => return None,
-    })
+        Operation::Or(until, always) => every_until(p.at(until), p.at(always)),
+        _ => None,
+    }
 }
 
 fn some_step(p: Part<'_>) -> Phrase<'_> {
