@@ -2,24 +2,21 @@
 use crate::problem::{Problem, Source};
 use std::env::Args;
 
-#[cfg(test)]
-mod tests;
-
 #[derive(Drop)]
-pub(crate) struct Request {
-    pub(crate) source: Source,
-    pub(crate) explain: bool,
+pub struct Request {
+    pub source: Source,
+    pub explain: bool,
 }
 
 #[derive(Drop)]
-pub(crate) enum Command {
+pub enum Command {
     Help,
     Check(Request),
 }
 
 // What the words so far ask for.
 #[derive(Default, Drop)]
-struct Options {
+pub struct Options {
     help: bool,
     explain: bool,
     source: Option<Source>,
@@ -36,7 +33,7 @@ impl Options {
     }
 
     // Takes the next word into account.
-    fn add(&mut self, word: String) -> Result<(), Problem> {
+    pub fn add(&mut self, word: String) -> Result<(), Problem> {
         match word.as_str() {
             "--help" => self.help = true,
             "--explain" => self.explain = true,
@@ -48,7 +45,8 @@ impl Options {
         Ok(())
     }
 
-    fn command(self) -> Command {
+    // The command that the words give.
+    pub fn command(self) -> Command {
         let Options {
             help,
             explain,
@@ -65,7 +63,7 @@ impl Options {
 }
 
 // The command that the words behind the program's name give.
-pub(crate) fn read_words(words: Args) -> Result<Command, Problem> {
+pub fn read_words(words: Args) -> Result<Command, Problem> {
     let mut options = Options::default();
     for word in words.skip(1) {
         options.add(word)?;

@@ -1,9 +1,6 @@
 // The text of --help.
-#[cfg(test)]
-mod tests;
-
 // A screen of 24 lines.
-pub(crate) const HELP: &str = "Usage: routecheck [--explain] [PLAN]
+pub const HELP: &str = "Usage: routecheck [--explain] [PLAN]
 Judges the rules of a plan at every entry of its network, on routes of every
 length, under all 64 settings of its conditions. PLAN names a plan file; with
 no name, or with -, the plan is read from standard input.

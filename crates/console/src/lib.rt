@@ -1,9 +1,9 @@
 // The command line of the program: it reads a plan, prints its report, and on demand explains it.
 #![tactic(auto)]
 
-mod command;
-mod help;
+pub mod command;
+pub mod help;
 mod input;
-mod problem;
-mod refused;
+pub mod problem;
+pub mod refused;
 pub mod run;

@@ -5,13 +5,13 @@ use std::{fmt, io};
 
 // Where a plan is read from.
 #[derive(Drop)]
-pub(crate) enum Source {
+pub enum Source {
     Stdin,
     File(String),
 }
 
 #[derive(Drop)]
-pub(crate) enum Problem {
+pub enum Problem {
     // The words of the command line are not to be had, or are no text.
     NoWords(io::Error),
     UnknownOption(String),

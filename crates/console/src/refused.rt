@@ -6,15 +6,12 @@ use plan::file::rules::rule_text;
 use rule_text::fault::{Fault, FaultKind};
 use std::fmt;
 
-#[cfg(test)]
-mod tests;
-
 // A plan that is refused: where it is from, the front of its file, and its fault.
 #[derive(Drop)]
-pub(crate) struct RefusedPlan {
-    pub(crate) source: Source,
-    pub(crate) file: Vec<u8>,
-    pub(crate) fault: PlanFault,
+pub struct RefusedPlan {
+    pub source: Source,
+    pub file: Vec<u8>,
+    pub fault: PlanFault,
 }
 
 fn file_words(kind: FileFaultKind) -> &'static str {

@@ -1,6 +1,6 @@
 // What is said of refused plans.
-use super::RefusedPlan;
-use crate::problem::Source;
+use console::problem::Source;
+use console::refused::RefusedPlan;
 use report::file::report;
 use std::alloc::{AllocError, Global};
 use std::process::Abort;

@@ -1,6 +1,5 @@
 // What command lines ask for, and what is said of those that ask for nothing.
-use super::{Command, Options};
-use crate::problem::Problem;
+use console::command::{Command, Options};
 use std::alloc::{AllocError, Global};
 use std::process::Abort;
 use std::test::Fail;

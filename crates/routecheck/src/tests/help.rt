@@ -1,7 +1,7 @@
 // The text of --help.
-use super::HELP;
 use conditions::set::ConditionSet;
 use conditions::word::Word;
+use console::help::HELP;
 use plan::file::rules::MOST_RULES;
 use plan::oversize::LONGEST;
 use routing::network::{MARKS, MOST_BINDINGS, MOST_PLACES};
