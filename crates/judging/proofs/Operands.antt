@@ -1,20 +1,28 @@
 -- The operands of a row: where they stand in the main list, and what a row makes of them.
-use Rattle.std.proofs.Common.{◌≡◌, ℕ, suc, ◌+◌, ◌-◌, ◌*◌, ◌<◌, ◌≤◌, Bool, true, false, cond, List, length, take, drop, IfSome, Some, None, Option, sym, refl, subst, mul-le-mul_right, suc-mul, arith}
+use Rattle.std.proofs.Common.{◌≡◌, ℕ, suc, ◌+◌, ◌-◌, ◌*◌, ◌<◌, ◌≤◌, Bool, true, false, cond, List, length, take, drop, IfSome, Some, None, Option, sym, refl, ap, ◌∙◌, subst, mul-le-mul_right, suc-mul, arith}
 use borrow.Rule.Slice.PartMut.{put_mid}
 use Rattle.std.proofs.lemmas.Slice.{take-put_mid_below, drop-put_mid, between-put_mid}
+use Rattle.std.proofs.lemmas.List.Edits.{length-between}
 use Rattle.std.proofs.lemmas.Bool.{false≢true}
-use Rattle.routing.specs.Net.{Pos, Net}
+use Rattle.routing.specs.Net.{Pos, Net, places}
 use Rattle.rounds.specs.Claims.{Is}
 use Rattle.rounds.specs.Rounds.{Decided}
 use Rattle.tables.specs.declared.row.Operation.{Operation}
 use Rattle.tables.specs.declared.row.Operation.TheVariants.{Yes, Mark, Condition, Not, And, Or, Next, Until, Always}
 use Rattle.tables.specs.Tables.{coded}
-use Rattle.judging.specs.Judged.{covers, row_part}
+use Rattle.judging.specs.Judged.{covers, row_part, PerPlace, HasPart}
 use Rattle.judging.specs.Shapes.{Shape, Rounds, first_is_row, second_is_row}
 
 -- The part of an earlier row ends where that of a later one begins, or before.
 pub part_before : (k row n : ℕ) → k < row → k * n + n ≤ row * n
 part_before k row n l = let s = suc-mul k n in let m = mul-le-mul_right {m = suc k} {n = row} n l in omega arith
+
+-- The part of a row has a set for each place.
+pub part_long : {S : Type 0} (N : Net) (n row : ℕ) (main part : List S)
+    → n ≡ places N → HasPart N row main → part ≡ row_part n row main → PerPlace N part
+part_long N n row main part e room is =
+    let r : row * n + n ≤ length main = subst (λ (m : ℕ). row * m + m ≤ length main) (sym e) room in
+    ap length is ∙ length-between main (row * n) (row * n + n) r ∙ omega arith
 
 -- An operand that is a row has its part within the main list.
 pub operand_within : (o : Option ℕ) (t : Bool) (k row n len : ℕ) → o ≡ cond t (Some k) None → (t ≡ true → k < row) → row * n + n ≤ len

@@ -1,4 +1,6 @@
-use Rattle.std.proofs.Common.{rules, ◌≡◌, ℕ, ◌<◌, ◌≤◌, Bool, true, length, sym, ap, ◌∙◌, subst, arith}
+use Rattle.std.proofs.Common.{rules, ◌≡◌, ℕ, ◌*◌, ◌<◌, ◌≤◌, Bool, true, length, sym, refl, ap, ◌∙◌, subst, inl, inr, arith}
+use Rattle.std.proofs.lemmas.Bool.{true≢false}
+use Rattle.std.proofs.lemmas.Result.{err_from_is_err_and}
 use Rattle.routing.specs.Net.{Net, Pos, places}
 use Rattle.routing.specs.Rules.{Rule, Means}
 use Rattle.rounds.specs.Rounds.{Decided}
@@ -10,6 +12,7 @@ use Rattle.judging.specs.Judged.{covers, row_part}
 use Rattle.judging.specs.Shown.{CanShow, Shows}
 use Rattle.judging.specs.Steps.{as_pos, chosen_by, Written}
 use Rattle.judging.proofs.Asked.{asked, can_show}
+use Rattle.judging.proofs.Operands.{part_before}
 use Rattle.judging.proofs.Right.{shown_right}
 use Rattle.judging.proofs.RuleRows.{operation_rule, fits_first, fits_second, rule_at_row}
 use Rattle.judging.proofs.Same.{same_true_at, chosen_same}
@@ -32,6 +35,53 @@ show_row-requires-clause-second g c =
     let a = asked N rows row (as_pos c.args.at) (sym c.in_ok-op.ensures.refusal) in
     let fit : row_fits N.conditions row (coded c.in_ok-op.op) ≡ true = ap (row_fits N.conditions row) c.in_ok-op.ensures.row ∙ accepted_row N.conditions rows a.taken row a.row_in in
     fits_second N.conditions row c.in_ok-op.op fit
+
+pub holds_at-requires-clause-room : goal.holds_at-requires-clause-room
+holds_at-requires-clause-room g c =
+    let N : Net = g.N.Network.meaning c.args.net.now in
+    let rows = c.args.table.now in
+    let a = asked N rows c.args.row (as_pos c.args.at) (sym c.in_ok-op.ensures.refusal) in
+    let fits : length rows * places N ≤ length c.args.main.now =
+    subst (λ (n : ℕ). length rows * n ≤ length c.args.main.now) c.places-n.ensures c.if-main-table.false in
+    let kept = c.judge_rows.auto.main in
+    let p = part_before c.args.row (length rows) (places N) a.row_in in
+    omega arith
+
+pub holds_at-requires-clause-inside : goal.holds_at-requires-clause-inside
+holds_at-requires-clause-inside g c =
+    let N : Net = g.N.Network.meaning c.args.net.now in
+    let a = asked N c.args.table.now c.args.row (as_pos c.args.at) (sym c.in_ok-op.ensures.refusal) in
+    a.within.place_in
+
+pub show_row-requires-clause-inside : goal.show_row-requires-clause-inside
+show_row-requires-clause-inside g c =
+    let N : Net = g.N.Network.meaning c.args.net.now in
+    let a = asked N c.args.table.now c.args.row (as_pos c.args.at) (sym c.in_ok-op.ensures.refusal) in
+    a.within
+
+pub returns-in_err-op : goal.returns-in_err-op
+returns-in_err-op g c =
+    let p = err_from_is_err_and c.from_residual.result c.from_residual.ensures.1 in
+    rw (p.1, p.2) (refl, inl (search rules, refl, refl))
+
+pub returns-then-not-holds_at : goal.returns-then-not-holds_at
+returns-then-not-holds_at g c =
+    let N : Net = g.N.Network.meaning c.args.net.now in
+    let row = c.args.row in
+    let a = asked N c.args.table.now row (as_pos c.args.at) (sym c.in_ok-op.ensures.refusal) in
+    let right = c.judge_rows.ensures.written row a.row_in (as_pos c.args.at) a.within in
+    (refl, inr (search rules, refl, λ means. true≢false (sym (right.1 means) ∙ sym c.holds_at.ensures ∙ c.if-not-holds_at.true)))
+
+pub show_row-requires-clause-room : goal.show_row-requires-clause-room
+show_row-requires-clause-room g c =
+    let N : Net = g.N.Network.meaning c.args.net.now in
+    let rows = c.args.table.now in
+    let a = asked N rows c.args.row (as_pos c.args.at) (sym c.in_ok-op.ensures.refusal) in
+    let fits : length rows * places N ≤ length c.args.main.now =
+    subst (λ (n : ℕ). length rows * n ≤ length c.args.main.now) c.places-n.ensures c.if-main-table.false in
+    let kept = c.judge_rows.auto.main in
+    let p = part_before c.args.row (length rows) (places N) a.row_in in
+    omega arith
 
 pub returns : goal.returns
 returns g c =

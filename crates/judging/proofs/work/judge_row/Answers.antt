@@ -16,6 +16,15 @@ copy_operand-requires g c =
       within = operand_within c.operands-p.result.0 (first_is_row op) (coded op).first c.args.row n (length c.args.main.now) c.operands-p.ensures.first c.requires.first room;
     }
 
+pub copy_operand-requires-2-clause-within : goal.copy_operand-requires-2-clause-within
+copy_operand-requires-2-clause-within g c =
+    let n = c.places-n.result in
+    let op = c.args.op in
+    let long = length c.args.main.now in
+    let room : c.args.row * n + n ≤ long = subst (λ (m : ℕ). c.args.row * m + m ≤ long) (sym c.places-n.ensures) c.requires.room in
+    operand_within c.operands-p.result.1 (second_is_row op) (coded op).second c.args.row n long
+    c.operands-p.ensures.second c.requires.second room
+
 pub returns : goal.returns
 returns g c =
     let holds = g.N.Set.ConditionSet.holds in
