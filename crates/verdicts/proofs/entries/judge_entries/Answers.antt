@@ -1,4 +1,4 @@
-use Rattle.std.proofs.Common.{ℕ, ◌-◌, ◌<◌, length, sym, subst, arith}
+use Rattle.std.proofs.Common.{rules, ℕ, ◌-◌, ◌<◌, length, sym, subst, arith}
 use Rattle.routing.specs.Net.{Net, places}
 use Rattle.routing.specs.Rules.{Means}
 use Rattle.rounds.specs.Claims.{Is}
@@ -20,3 +20,6 @@ returns-clause-told g c =
     let told : Told N (Is (covers holds (row_part (places N) i c.judge.new.main))) c.at_entries-verdict.result =
     subst (λ (m : ℕ). Told N (Is (covers holds (row_part m i c.judge.new.main))) c.at_entries-verdict.result) c.places-n.ensures c.at_entries-verdict.ensures in
     told_alike N (Is (covers holds (row_part (places N) i c.judge.new.main))) (Means N (rule_at rows i)) (c.in_ok-rounds.ensures.judged.written i last) c.at_entries-verdict.result told
+
+pub returns-clause-judged : goal.returns-clause-judged
+returns-clause-judged g c = search rules

@@ -12,3 +12,6 @@ returns-clause-told g c =
 
 pub returns-clause-refusal : goal.returns-clause-refusal
 returns-clause-refusal g c = search rules
+
+pub returns-clause-judged : goal.returns-clause-judged
+returns-clause-judged g c = search rules

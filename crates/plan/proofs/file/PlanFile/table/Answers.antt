@@ -1,9 +1,10 @@
-use Rattle.std.proofs.Common.{rules, ◌≡◌, ℕ, ◌<◌, List, Ok, Err, Result, IsOk, refl, sym, subst, arith}
+use Rattle.std.proofs.Common.{rules, ◌≡◌, ℕ, ◌<◌, List, true, Ok, Err, Result, IsOk, IfOk, refl, sym, subst, arith}
 use mathlib.Core.Logic.{∥∥₁_elim}
 use Rattle.routing.specs.Rules.{Rule}
+use Rattle.tables.specs.Tables.{accepted}
 use Rattle.rule_text.specs.declared.fault.Fault.{Fault}
 use Rattle.rule_text.specs.declared.table.Table.{Table}
-use Rattle.rule_text.specs.Reading.{Answer, Reading}
+use Rattle.rule_text.specs.Reading.{Answer, Reading, StandsFor, table_rows}
 use Rattle.rule_text.proofs.Once.{reading_once}
 use Rattle.plan.specs.Contents.{rule_count, text_at}
 use Rattle.plan.specs.Files.{file_plan}
@@ -37,3 +38,18 @@ pub returns-in_err-text : goal.returns-in_err-text
 returns-in_err-text c =
     let beyond = past_of_none (file_plan c.args.self.now).texts c.args.rule c.in_err-text.ensures in
     search rules
+
+pub returns : goal.returns
+returns c =
+    let text = c.in_ok-text.text.now in
+    let is = c.unwrap.ensures in
+    let answer = subst (Answer 6 text) is c.read_rule.ensures.answer in
+    record {
+      text = text;
+      listed = sym c.in_ok-text.ensures;
+      rule = answer.0;
+      reads = answer.1;
+      rows = answer.2;
+      means = subst (λ r. IfOk r (λ t. (f : Rule) → Reading 6 text (Ok f) → StandsFor (table_rows t) f)) is c.read_rule.ensures.means answer.0 answer.1;
+      accepted = subst (λ r. IfOk r (λ t. accepted 6 (table_rows t) ≡ true)) is c.read_rule.ensures.accepted;
+    }
