@@ -63,7 +63,7 @@ impl Options {
 }
 
 // The command that the words behind the program's name give.
-pub fn read_words(words: Args) -> Result<Command, Problem> {
+pub(crate) fn read_words(words: Args) -> Result<Command, Problem> {
     let mut options = Options::default();
     for word in words.skip(1) {
         options.add(word)?;
