@@ -64,6 +64,15 @@ ends_fault file i zero = None
 ends_fault file i (suc n) =
     first_fault (no_place (binding_byte file i) file ∷ no_place (binding_byte file i + 2) file ∷ ends_fault file (suc i) n ∷ [])
 
+-- The first fault of a file of `total` bytes that is long enough for its contents.
+abbrev pub counted_fault : ℕ → List ℕ → Option FileFault
+counted_fault total file = first_fault
+    (counts_fault file
+    ∷ contents_fault file
+    ∷ lengths_fault total file 0 (rule_count file)
+    ∷ end_fault total file
+    ∷ ends_fault file 0 (binding_count file) ∷ [])
+
 -- The first fault of a file of `total` bytes.
 unfoldable pub shape_fault : ℕ → List ℕ → Option FileFault
 shape_fault total file = first_fault

@@ -5,6 +5,7 @@ ghost use Rattle.plan.specs.Contents.{binding_count, place_count, rule_count};
 ghost use Rattle.plan.specs.Format.{longest, rules_start};
 ghost use Rattle.plan.specs.Shape.{
   contents_fault,
+  counted_fault,
   counts_fault,
   differs,
   end_fault,
@@ -170,6 +171,17 @@ impl<'a> CountedFile<'a> {
         }
         Ok(())
     }
+
+    // The counts, the contents, the rules' lengths with the end of the file, and the ends of the bindings.
+    fn check_all(&self, total: usize) -> Result<(), FileFault>
+        requires front { length self.now.bytes.now < longest → length self.now.bytes.now ≡ total }
+        ensures { result_err result ≡ counted_fault total self.now.bytes.now }
+    {
+        self.check_counts()?;
+        self.check_contents()?;
+        self.check_rules(total)?;
+        self.check_ends()
+    }
 }
 
 // A file with no fault, or the first fault of a file of `total` bytes, of which `file` has at least the front that a plan
@@ -182,9 +194,6 @@ pub(crate) fn check_shape(file: &[u8], total: usize) -> Result<CountedFile<'_>, 
 {
     check(total >= FIRST_BODY, FileFaultKind::WrongLength, total)?;
     let counted = CountedFile::read(file);
-    counted.check_counts()?;
-    counted.check_contents()?;
-    counted.check_rules(total)?;
-    counted.check_ends()?;
+    counted.check_all(total)?;
     Ok(counted)
 }
