@@ -4,33 +4,33 @@ use std::alloc::{AllocError, Global};
 use std::process::Abort;
 use std::test::Fail;
 
-// Words, and what they ask for.
-type Case = (&'static [&'static str], &'static str);
+// Words with a space between them, and what they ask for.
+type Case = (&'static str, &'static str);
 
 const PLANS: [Case; 6] = [
-    (&[], "standard input false"),
-    (&["-"], "standard input false"),
-    (&["a.plan"], "a.plan false"),
-    (&["--explain"], "standard input true"),
-    (&["a.plan", "--explain"], "a.plan true"),
-    (&["--help", "a.plan"], "help"),
+    ("", "standard input false"),
+    ("-", "standard input false"),
+    ("a.plan", "a.plan false"),
+    ("--explain", "standard input true"),
+    ("a.plan --explain", "a.plan true"),
+    ("--help a.plan", "help"),
 ];
 
 const WRONG_WORDS: [Case; 2] = [
     (
-        &["--explian", "a.plan"],
+        "--explian a.plan",
         "there is no option --explian; --help says what there is",
     ),
     (
-        &["a.plan", "b.plan"],
+        "a.plan b.plan",
         "b.plan is a second plan; one plan is read at a time",
     ),
 ];
 
 // What the words ask for, as text: `help`, or the source and whether it is explained.
-fn asked(heap: Global, words: &[&str]) -> Result<String, AllocError> {
+fn asked(heap: Global, words: &str) -> Result<String, AllocError> {
     let mut options = Options::default();
-    for word in words {
+    for word in words.split_ascii_whitespace() {
         if let Err(problem) = options.add(word.to_string(heap)?) {
             return format!(in heap; "{problem}");
         }

@@ -6,7 +6,22 @@ use plan::file::rules::MOST_RULES;
 use plan::oversize::LONGEST;
 use routing::network::{MARKS, MOST_BINDINGS, MOST_PLACES};
 use rule_text::read::MOST_BYTES;
+use std::alloc::{AllocError, Global};
 use std::test::Fail;
+
+// Words of the text before a limit, the limit of the libraries, and the words behind it.
+const LIMITS: [(&str, usize, &str); 6] = [
+    ("Limits: ", MOST_PLACES, " places, "),
+    (" places, ", MOST_BINDINGS, " bindings, "),
+    (" bindings, ", MOST_RULES, " rules of at most "),
+    (
+        " rules of at most ",
+        MOST_BYTES,
+        " bytes, marks m0 (for\nentries) to m",
+    ),
+    ("entries) to m", MARKS as usize - 1, ", conditions c0 to "),
+    (" a file of at most ", LONGEST, " bytes.\n"),
+];
 
 // It fits on a screen of 24 lines of 80 columns.
 #[test]
@@ -15,14 +30,18 @@ fn screen(rt: HostRuntime) {
     assert!(rt; HELP.lines().all(|line| line.len() <= 80));
 }
 
-// Its limits are those of the libraries.
+// Whether the text has these words around this limit.
+fn says(heap: Global, before: &str, limit: usize, behind: &str) -> Result<bool, AllocError> {
+    let words = format!(in heap; "{before}{limit}{behind}")?;
+    Ok(HELP.contains(words.as_str()))
+}
+
 #[test]
 fn limits(rt: HostRuntime) -> Result<(), Fail> {
-    let last_mark = MARKS - 1;
-    let last_condition = Word::conditions() - 1;
-    let limits = format!(in rt.alloc();
-        "Limits: {MOST_PLACES} places, {MOST_BINDINGS} bindings, {MOST_RULES} rules of at most {MOST_BYTES} bytes, marks m0 (for\nentries) to m{last_mark}, conditions c0 to c{last_condition}; a file of at most {LONGEST} bytes.\n"
-    )?;
-    assert!(rt; HELP.ends_with(limits.as_str()));
+    for (before, limit, behind) in &LIMITS {
+        assert!(rt; says(rt.alloc(), before, *limit, behind)?);
+    }
+    let last = Word::conditions() as usize - 1;
+    assert!(rt; says(rt.alloc(), " conditions c0 to c", last, "; a file")?);
     Ok(())
 }

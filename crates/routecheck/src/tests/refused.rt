@@ -37,6 +37,37 @@ const FILES: [(usize, u8, &str); 5] = [
     ),
 ];
 
+// The text of the rule, the byte of the fault, and the words before ", in rule 0".
+const TEXTS: [(&str, usize, &str); 6] = [
+    (
+        "m0 $",
+        3,
+        "a word is unknown, or a byte is a stray one (refusal 1",
+    ),
+    (
+        "AF m1 m0",
+        6,
+        "a word cannot follow the words before it (refusal 2",
+    ),
+    ("AF", 2, "the rule is unfinished at its end (refusal 2"),
+    (
+        "m0 | c6",
+        5,
+        "the number of a mark or a condition is out of range (refusal 3",
+    ),
+    (
+        "!!!!!!!!!!!!!!!!!!!!!!!!!!!!!!!!m0",
+        32,
+        "a word stands too deep, at a 33rd level (refusal 4",
+    ),
+    // 17 marks and 16 times `|`.
+    (
+        "m0|m0|m0|m0|m0|m0|m0|m0|m0|m0|m0|m0|m0|m0|m0|m0|m0",
+        50,
+        "the rule has too many rows, over 32 (refusal 5",
+    ),
+];
+
 // The plan with this text.
 fn plan_of(heap: Global, text: &[u8]) -> Result<Vec<u8>, AllocError> {
     let length = u16::try_from(text.len()).unwrap_or(u16::MAX).to_le_bytes();
@@ -70,32 +101,22 @@ fn check_text(
     rt: &impl Abort,
     heap: Global,
     text: &str,
-    words: &str,
     byte: usize,
+    words: &str,
 ) -> Result<(), Fail> {
-    let found = said(heap, plan_of(heap, text.as_bytes())?)?;
+    let plan = plan_of(heap, text.as_bytes())?;
+    let found = said(heap, plan)?;
     let wanted = text_sentence(heap, text, words, byte)?;
-    assert_eq!(rt; found.as_str(), wanted.as_str());
+    assert_eq!(rt; found, wanted);
     Ok(())
 }
 
 #[test]
 fn texts(rt: HostRuntime) -> Result<(), Fail> {
-    let heap = rt.alloc();
-    let unknown = "a word is unknown, or a byte is a stray one (refusal 1";
-    check_text(&rt, heap, "m0 $", unknown, 3)?;
-    let follows = "a word cannot follow the words before it (refusal 2";
-    check_text(&rt, heap, "AF m1 m0", follows, 6)?;
-    let unfinished = "the rule is unfinished at its end (refusal 2";
-    check_text(&rt, heap, "AF", unfinished, 2)?;
-    let range = "the number of a mark or a condition is out of range (refusal 3";
-    check_text(&rt, heap, "m0 | c6", range, 5)?;
-    let deep = "a word stands too deep, at a 33rd level (refusal 4";
-    check_text(&rt, heap, "!!!!!!!!!!!!!!!!!!!!!!!!!!!!!!!!m0", deep, 32)?;
-    // 17 marks and 16 times `|`.
-    let long = "m0|m0|m0|m0|m0|m0|m0|m0|m0|m0|m0|m0|m0|m0|m0|m0|m0";
-    let rows = "the rule has too many rows, over 32 (refusal 5";
-    check_text(&rt, heap, long, rows, 50)
+    for (text, byte, words) in &TEXTS {
+        check_text(&rt, rt.alloc(), text, *byte, words)?;
+    }
+    Ok(())
 }
 
 // The sentence of the plan with this byte in another byte's place.
@@ -109,9 +130,9 @@ fn changed(heap: Global, at: usize, byte: u8) -> Result<String, AllocError> {
 
 #[test]
 fn files(rt: HostRuntime) -> Result<(), Fail> {
-    for (at, byte, wanted) in FILES {
-        let found = changed(rt.alloc(), at, byte)?;
-        assert_eq!(rt; found.as_str(), wanted);
+    for (at, byte, wanted) in &FILES {
+        let found = changed(rt.alloc(), *at, *byte)?;
+        assert_eq!(rt; found.as_str(), *wanted);
     }
     Ok(())
 }
