@@ -23,3 +23,6 @@ returns-clause-told g c =
 
 pub returns-clause-judged : goal.returns-clause-judged
 returns-clause-judged g c = search rules
+
+pub returns-in_err-rounds-clause-refusal : goal.returns-in_err-rounds-clause-refusal
+returns-in_err-rounds-clause-refusal g c = search rules
