@@ -1,1 +1,3 @@
 pub mod Verdicts
+pub mod Rehearsals
+pub mod Shutting

@@ -1,2 +1,4 @@
 pub mod Sites
 pub mod Verdicts
+pub mod Rehearsals
+pub mod Shutting

@@ -1,6 +1,6 @@
 // Rehearsals on a network of two places: 0, the entry, and 1, with mark 1.
 use conditions::word::Word;
-use rehearsal::rehearse::rehearse;
+use verdicts::rehearse::rehearse;
 use routing::binding::Binding;
 use routing::refusal::Refusal;
 use tables::row::{Operation, Row};

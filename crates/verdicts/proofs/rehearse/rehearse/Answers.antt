@@ -7,9 +7,9 @@ use Rattle.routing.specs.Rules.{Means}
 use Rattle.tables.specs.Tables.{rule_at}
 use Rattle.verdicts.specs.Sites.{site_refusal}
 use Rattle.verdicts.specs.Verdicts.{Told}
-use Rattle.rehearsal.proofs.Shutting.{restored}
-use Rattle.rehearsal.proofs.Rehearsals.{site_ready}
-use Rattle.rehearsal.proofs.rehearse.rehearse.Goals as goal
+use Rattle.verdicts.proofs.Shutting.{restored}
+use Rattle.verdicts.proofs.Rehearsals.{site_ready}
+use Rattle.verdicts.proofs.rehearse.rehearse.Goals as goal
 
 pub returns-clause-back : goal.returns-clause-back
 returns-clause-back c = c.drop-guard.ensures ∙ restored _ _ _ _ _ c.empty_set-old.ensures.after c.empty_set-old.ensures.value

@@ -5,9 +5,11 @@ ghost use Rattle.routing.specs.Rules.{Means};
 ghost use Rattle.tables.specs.Tables.{rule_at};
 ghost use Rattle.judging.specs.Judged.{RoundsBefore};
 ghost use Rattle.verdicts.specs.Verdicts.{Told};
-ghost use Rattle.rehearsal.specs.Rehearsals.{shut_net, rehearse_refusal};
+ghost use Rattle.verdicts.specs.Rehearsals.{shut_net, rehearse_refusal};
 
 use crate::shut::{Shut, empty_set};
+use crate::site::judge_site;
+use crate::verdict::Judgement;
 use conditions::set::ConditionSet;
 use conditions::word::Word;
 use routing::binding::Binding;
@@ -15,8 +17,6 @@ use routing::refusal::Refusal;
 use routing::site::SiteTable;
 use tables::row::Row;
 use tables::table::is_accepted;
-use verdicts::site::judge_site;
-use verdicts::verdict::Judgement;
 
 // Tests a rehearsal with lists of so many sets.
 fn check(

@@ -4,7 +4,7 @@ use Rattle.conditions.specs.declared.word.Word.{Word}
 use Rattle.routing.specs.declared.binding.Binding.{Binding}
 use Rattle.routing.specs.declared.refusal.Refusal.TheVariants.{NoPlace, OverLimit}
 use Rattle.routing.specs.Refusals.{all_inside, opening}
-use Rattle.rehearsal.specs.Shutting.{with_set, set_at, shut_at}
+use Rattle.verdicts.specs.Shutting.{with_set, set_at, shut_at}
 
 -- The old set, put back over any other, gives the records again.
 restore : (records : List (Binding Word)) (i : ℕ) (s : Word) → with_set (with_set records i s) i (set_at records i) ≡ records

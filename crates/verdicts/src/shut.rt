@@ -1,7 +1,7 @@
 // Shutting one binding of a list of records for a time.
 ghost use Rattle.std.specs.Prelude.{◌≡◌, ℕ, ◌<◌, false, length};
 ghost use Rattle.conditions.specs.WordSets.{word_holds};
-ghost use Rattle.rehearsal.specs.Shutting.{with_set, set_at, shut_at};
+ghost use Rattle.verdicts.specs.Shutting.{with_set, set_at, shut_at};
 
 use conditions::word::Word;
 use routing::binding::Binding;

@@ -9,9 +9,9 @@ use Rattle.tables.specs.declared.row.Row.{Row}
 use Rattle.tables.specs.Tables.{accepted}
 use Rattle.judging.specs.Judged.{judge_refusal}
 use Rattle.verdicts.specs.Sites.{first_refusal}
-use Rattle.rehearsal.specs.Shutting.{shut_at}
-use Rattle.rehearsal.specs.Rehearsals.{shut_net, rehearse_refusal}
-use Rattle.rehearsal.proofs.Shutting.{shut_opening}
+use Rattle.verdicts.specs.Shutting.{shut_at}
+use Rattle.verdicts.specs.Rehearsals.{shut_net, rehearse_refusal}
+use Rattle.verdicts.proofs.Shutting.{shut_opening}
 
 -- Without the test of the number there is no refusal either.
 fewer_tests : (o : Option Refusal) (a b r : Bool)

@@ -11,7 +11,7 @@ use Rattle.routing.specs.Refusals.{opening}
 use Rattle.tables.specs.declared.row.Row.{Row}
 use Rattle.tables.specs.Tables.{accepted}
 use Rattle.verdicts.specs.Sites.{first_refusal}
-use Rattle.rehearsal.specs.Shutting.{shut_at}
+use Rattle.verdicts.specs.Shutting.{shut_at}
 
 -- The network of the marks and the records, with binding i shut.
 abbrev pub shut_net : List ℕ → List (Binding Word) → ℕ → Net

@@ -1,2 +1,0 @@
-pub mod Shutting
-pub mod Rehearsals
