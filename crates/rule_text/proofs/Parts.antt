@@ -1,22 +1,24 @@
 -- What choice, both and one do, put together from their steps.
-use Rattle.std.proofs.Common.{◌≡◌, ℕ, ◌+◌, ◌-◌, ◌<◌, ◌≤◌, true, List, [], ◌∷◌, length, Some, None, Ok, Err, Option, Result, sym, refl, ap, ◌∙◌, arith}
+use Rattle.std.proofs.Common.{◌≡◌, ℕ, ◌+◌, ◌-◌, ◌<◌, ◌≤◌, List, [], ◌∷◌, length, Some, None, Ok, Err, Option, Result, sym, refl, ap, ◌∙◌, arith}
 use Rattle.std.specs.Result.{IsErrAnd}
-use Rattle.routing.specs.Rules.{Rule, both}
-use Rattle.tables.specs.declared.row.Operation.TheVariants.{And as AndRow, Or as OrRow}
+use Rattle.routing.specs.Rules.{Rule, truth, mark, condition, both}
+use Rattle.tables.specs.declared.row.Operation.{Operation}
+use Rattle.tables.specs.declared.row.Operation.TheVariants.{Yes as YesRow, Mark as MarkRow, Condition as ConditionRow, And as AndRow, Or as OrRow}
 use Rattle.tables.specs.Tables.{coded}
 use Rattle.rule_text.specs.declared.fault.Fault.{Fault}
 use Rattle.rule_text.specs.declared.parse.Parser.{Parser}
 use Rattle.rule_text.specs.declared.reader.Reader.{Reader}
+use Rattle.rule_text.specs.declared.word.Start.{Start}
+use Rattle.rule_text.specs.declared.word.Start.TheVariants.{Atom}
 use Rattle.rule_text.specs.declared.word.Word.{Word}
 use Rattle.rule_text.specs.declared.table.Table.{Table}
 use Rattle.rule_text.specs.declared.word.Prefix.{Prefix}
 use Rattle.rule_text.specs.declared.word.Quantifier.{Quantifier}
-use Rattle.rule_text.specs.declared.word.Word.TheVariants.{Before, Routes, Until, And, Or, Open, Close, OpenSquare, CloseSquare}
+use Rattle.rule_text.specs.declared.word.Word.TheVariants.{Yes, Mark, Condition, Before, Routes, Until, And, Or, Open, Close, OpenSquare, CloseSquare}
 use Rattle.rule_text.specs.Grammar.{prefix_rule, until_rule}
-use Rattle.rule_text.specs.Levels.{has_level}
 use Rattle.rule_text.specs.Descent.{unread, end_of, Onward, Stepped, Fails, Took, Missed, Enters, Around, inside, bracket, until_first, until_second, State, before_part, before_square, behind_part, part_done, or_with, next_state, depth, outcome, Added, OneRead, BothRead, ChoiceRead, OneFails, BothFails, ChoiceFails, Joining, Choosing, LastIs, push_row, rows_kept}
-use Rattle.rule_text.proofs.Emitted.{added_and, added_or}
-use Rattle.rule_text.proofs.Steps.{parser, ahead_of, leads_bad, ends_same, entered, entered_not, left_with, only_closer, only_square, passed, passed_not}
+use Rattle.rule_text.proofs.Emitted.{added_yes, added_mark, added_condition, added_and, added_or}
+use Rattle.rule_text.proofs.Steps.{Begins, yes, of_mark, of_condition, begun_level, begun_leads, parser, ahead_of, leads_bad, ends_same, entered, entered_not, left_with, only_closer, only_square, passed, passed_not}
 
 -- A word alone.
 pub one_word : (n : ℕ) (a b : Reader) (t u : Option Table) (r : ℕ) (w : Word) (f : Rule) → a.word ≡ Some w → (0 < n) × Stepped a b → Added t u f r
@@ -25,15 +27,23 @@ pub one_word : (n : ℕ) (a b : Reader) (t u : Option Table) (r : ℕ) (w : Word
 one_word n a b t u r w f e st ad m =
     (f, ad, ahead_of a b w e st.1, λ xs o l K d. entered (end_of a) a b w n xs o l K (part_done xs o l K f) e st d (m xs o l K))
 
+-- A word that is a part of its own, with its row.
+pub one_atom : (n : ℕ) (a b : Reader) (t u : Option Table) (r : ℕ) (w : Word) (operation : Operation) → Begins w (Atom operation) → a.word ≡ Some w
+    → (0 < n) × Stepped a b → rows_kept u ≡ push_row (rows_kept t) (coded operation) → LastIs (rows_kept u) r → OneRead n (parser a t) (parser b u) (Ok r)
+one_atom n a b t u r _ _ yes e st rows last =
+    one_word n a b t u r Yes truth e st (added_yes t u r rows last) (λ xs o l K. refl)
+one_atom n a b t u r _ _ (of_mark k) e st rows last =
+    one_word n a b t u r (Mark k) (mark k) e st (added_mark t u k r rows last) (λ xs o l K. refl)
+one_atom n a b t u r _ _ (of_condition k) e st rows last =
+    one_word n a b t u r (Condition k) (condition k) e st (added_condition t u k r rows last) (λ xs o l K. refl)
+
 -- A part whose first word cannot be entered, at the exit of the `?`.
-pub one_not_entered : (n : ℕ) (a d : Reader) (t : Option Table) (w : Word) (r : Result ℕ Fault) (f : Fault) → IsErrAnd r (λ y. y ≡ f) → a.word ≡ Some w
-    → has_level w ≡ true → Enters n a d (Err f)
-    → ((xs : List Prefix) (o l : Option Rule) (K : Around) → (s : State) × (next_state (before_part xs o l K) w ≡ Some s))
-    → OneRead n (parser a t) (parser d t) r
-one_not_entered n a d t w r f left e h en m = left_with (OneRead n (parser a t) (parser d t)) r f left fails
+pub one_not_entered : (n : ℕ) (a d : Reader) (t : Option Table) (w : Word) (s : Start) (r : Result ℕ Fault) (f : Fault) → IsErrAnd r (λ y. y ≡ f)
+    → Begins w s → a.word ≡ Some w → Enters n a d (Err f) → OneRead n (parser a t) (parser d t) r
+one_not_entered n a d t w s r f left b e en = left_with (OneRead n (parser a t) (parser d t)) r f left fails
   where
     fails : OneFails n a f
-    fails xs o l K q = let s = m xs o l K in entered_not (end_of a) a d w n xs o l K s.0 f e h en q s.1
+    fails xs o l K q = let to = begun_leads w s xs o l K b in entered_not (end_of a) a d w n xs o l K to.0 f e (begun_level w s b) en q to.1
 
 -- A prefix and its part.
 pub one_prefix : (x : Prefix) (n : ℕ) (a a₁ b : Reader) (t t₁ u₁ u : Option Table) (part r : ℕ) → a.word ≡ Some (Before x) → Enters n a a₁ (Ok tt) → Onward a a₁

@@ -5,6 +5,9 @@ use Rattle.rule_text.specs.declared.fault.FaultKind.TheVariants.{CannotFollow}
 use Rattle.rule_text.specs.declared.reader.Reader.{Reader}
 use Rattle.rule_text.specs.declared.parse.Parser.{Parser}
 use Rattle.rule_text.specs.declared.table.Table.{Table}
+use Rattle.tables.specs.declared.row.Operation.TheVariants.{Yes as YesRow, Mark as MarkRow, Condition as ConditionRow}
+use Rattle.rule_text.specs.declared.word.Start.{Start}
+use Rattle.rule_text.specs.declared.word.Start.TheVariants.{Atom, Prefix as AtPrefix, Bracket as AtBracket, Quantifier as AtQuantifier}
 use Rattle.rule_text.specs.declared.word.Word.{Word}
 use Rattle.rule_text.specs.Faults.{fault}
 use Rattle.std.proofs.lemmas.Result.{err_from_is_err_and}
@@ -14,7 +17,7 @@ use Rattle.rule_text.specs.declared.word.Prefix.{Prefix}
 use Rattle.rule_text.specs.declared.word.Quantifier.{Quantifier}
 use Rattle.rule_text.specs.declared.word.Word.TheVariants.{Yes, Mark, Condition, Before, Routes, Until, And, Or, Open, Close, OpenSquare, CloseSquare}
 use Rattle.rule_text.specs.Levels.{has_level}
-use Rattle.rule_text.specs.Descent.{items, left, unread, end_of, Onward, Stepped, Fails, Took, Missed, another, faulty, Takes, Enters, Around, nothing, inside, bracket, until_first, until_second, State, before_part, before_square, behind_part, next_state, depth, levels_at, rule_read, at_end, moved, outcome}
+use Rattle.rule_text.specs.Descent.{start_of, items, left, unread, end_of, Onward, Stepped, Fails, Took, Missed, another, faulty, Takes, Enters, Around, nothing, inside, bracket, until_first, until_second, State, before_part, before_square, behind_part, next_state, depth, levels_at, rule_read, at_end, moved, outcome}
 
 abbrev pub parser : Reader → Option Table → Parser
 parser r t = record { reader = r; table = t }
@@ -166,19 +169,72 @@ ends_same a b on = ap (λ x. length x.now) on.text_same
 pub onward : (a b d : Reader) → Onward a b → Onward b d → Onward a d
 onward a b d x y = record { text_same = y.text_same ∙ x.text_same; conditions_same = y.conditions_same ∙ x.conditions_same }
 
--- A word that begins no part.
-pub no_starter : (v : Word) (xs : List Prefix) (o l : Option Rule) (K : Around)
-    → (v ≡ Yes → ⊥) → ((k : ℕ) → v ≡ Mark k → ⊥) → ((k : ℕ) → v ≡ Condition k → ⊥) → ((x : Prefix) → v ≡ Before x → ⊥) → ((q : Quantifier) → v ≡ Routes q → ⊥) → (v ≡ Open → ⊥)
-    → next_state (before_part xs o l K) v ≡ None
-no_starter Yes xs o l K a b d e f g = absurd (a refl)
-no_starter (Mark k) xs o l K a b d e f g = absurd (b k refl)
-no_starter (Condition k) xs o l K a b d e f g = absurd (d k refl)
-no_starter (Before x) xs o l K a b d e f g = absurd (e x refl)
-no_starter (Routes q) xs o l K a b d e f g = absurd (f q refl)
-no_starter Until xs o l K a b d e f g = refl
-no_starter And xs o l K a b d e f g = refl
-no_starter Or xs o l K a b d e f g = refl
-no_starter Open xs o l K a b d e f g = absurd (g refl)
-no_starter Close xs o l K a b d e f g = refl
-no_starter OpenSquare xs o l K a b d e f g = refl
-no_starter CloseSquare xs o l K a b d e f g = refl
+-- A word with which no part begins.
+pub no_start : (v : Word) (xs : List Prefix) (o l : Option Rule) (K : Around) → start_of v ≡ None → next_state (before_part xs o l K) v ≡ None
+no_start Yes xs o l K e = cc
+no_start (Mark k) xs o l K e = cc
+no_start (Condition k) xs o l K e = cc
+no_start (Before x) xs o l K e = cc
+no_start (Routes q) xs o l K e = cc
+no_start Until xs o l K e = refl
+no_start And xs o l K e = refl
+no_start Or xs o l K e = refl
+no_start Open xs o l K e = cc
+no_start Close xs o l K e = refl
+no_start OpenSquare xs o l K e = refl
+no_start CloseSquare xs o l K e = refl
+
+-- The words with which a part begins in one way.
+pub data Begins : Word → Start → Type 0 where
+  yes : Begins Yes (Atom YesRow)
+  of_mark : (k : ℕ) → Begins (Mark k) (Atom (MarkRow k))
+  of_condition : (k : ℕ) → Begins (Condition k) (Atom (ConditionRow k))
+  of_prefix : (x : Prefix) → Begins (Before x) (AtPrefix x)
+  of_bracket : Begins Open AtBracket
+  of_quantifier : (q : Quantifier) → Begins (Routes q) (AtQuantifier q)
+
+begins : (v : Word) (s : Start) → start_of v ≡ Some s → Begins v s
+begins Yes s e = let same : Atom YesRow ≡ s = cc in subst (Begins Yes) same yes
+begins (Mark k) s e = let same : Atom (MarkRow k) ≡ s = cc in subst (Begins (Mark k)) same (of_mark k)
+begins (Condition k) s e = let same : Atom (ConditionRow k) ≡ s = cc in subst (Begins (Condition k)) same (of_condition k)
+begins (Before x) s e = let same : AtPrefix x ≡ s = cc in subst (Begins (Before x)) same (of_prefix x)
+begins (Routes q) s e = let same : AtQuantifier q ≡ s = cc in subst (Begins (Routes q)) same (of_quantifier q)
+begins Until s e = cc
+begins And s e = cc
+begins Or s e = cc
+begins Open s e = let same : AtBracket ≡ s = cc in subst (Begins Open) same of_bracket
+begins Close s e = cc
+begins OpenSquare s e = cc
+begins CloseSquare s e = cc
+
+-- What was answered of the word is that a part begins so.
+pub begun : {v : Word} {r : Option Start} {s t : Start} → r ≡ start_of v → r ≡ Some s → s ≡ t → Begins v t
+begun {v} e is same = subst (Begins v) same (begins v _ (sym e ∙ is))
+
+-- A word with which a part begins opens or fills a level, and leads on.
+pub begun_level : (v : Word) (s : Start) → Begins v s → has_level v ≡ true
+begun_level _ _ yes = refl
+begun_level _ _ (of_mark k) = refl
+begun_level _ _ (of_condition k) = refl
+begun_level _ _ (of_prefix x) = refl
+begun_level _ _ of_bracket = refl
+begun_level _ _ (of_quantifier q) = refl
+
+pub begun_leads : (v : Word) (s : Start) (xs : List Prefix) (o l : Option Rule) (K : Around) → Begins v s
+    → (t : State) × (next_state (before_part xs o l K) v ≡ Some t)
+begun_leads _ _ xs o l K yes = (_, refl)
+begun_leads _ _ xs o l K (of_mark k) = (_, refl)
+begun_leads _ _ xs o l K (of_condition k) = (_, refl)
+begun_leads _ _ xs o l K (of_prefix x) = (_, refl)
+begun_leads _ _ xs o l K of_bracket = (_, refl)
+begun_leads _ _ xs o l K (of_quantifier q) = (_, refl)
+
+-- The word in hand, by how a part begins with it.
+pub is_before : {h : Option Word} {v : Word} {x : Prefix} → h ≡ Some v → Begins v (AtPrefix x) → h ≡ Some (Before x)
+is_before e (of_prefix x) = e
+
+pub is_open : {h : Option Word} {v : Word} → h ≡ Some v → Begins v AtBracket → h ≡ Some Open
+is_open e of_bracket = e
+
+pub is_routes : {h : Option Word} {v : Word} {q : Quantifier} → h ≡ Some v → Begins v (AtQuantifier q) → h ≡ Some (Routes q)
+is_routes e (of_quantifier q) = e

@@ -3,7 +3,7 @@ use Rattle.std.specs.Prelude.{fold, ◌≡◌, ℕ, suc, ◌+◌, ◌<◌, ◌�
 use Rattle.std.specs.Option.{option_map}
 use Rattle.routing.specs.Rules.{Rule, truth, mark, condition, both, either}
 use Rattle.tables.specs.declared.row.Row.{Row}
-use Rattle.tables.specs.declared.row.Operation.TheVariants.{Not as NotRow, Next as NextRow, Until as UntilRow, Always as AlwaysRow, Yes as YesRow}
+use Rattle.tables.specs.declared.row.Operation.TheVariants.{Not as NotRow, Next as NextRow, Until as UntilRow, Always as AlwaysRow, Yes as YesRow, Mark as MarkRow, Condition as ConditionRow}
 use Rattle.tables.specs.Tables.{coded}
 use Rattle.rule_text.specs.declared.fault.Fault.{Fault}
 use Rattle.rule_text.specs.declared.fault.FaultKind.{FaultKind}
@@ -15,6 +15,8 @@ use Rattle.rule_text.specs.declared.parse.Parser.{Parser}
 use Rattle.rule_text.specs.declared.table.Table.{Table}
 use Rattle.rule_text.specs.declared.word.Quantifier.{Quantifier}
 use Rattle.rule_text.specs.declared.word.Quantifier.TheVariants.{Exists, Forall}
+use Rattle.rule_text.specs.declared.word.Start.{Start}
+use Rattle.rule_text.specs.declared.word.Start.TheVariants.{Atom, Prefix as AtPrefix, Bracket as AtBracket, Quantifier as AtQuantifier}
 use Rattle.rule_text.specs.declared.word.Word.{Word}
 use Rattle.rule_text.specs.declared.word.Word.TheVariants.{Yes, Mark, Condition, Before, Routes, Until, And, Or, Open, Close, OpenSquare, CloseSquare}
 use Rattle.rule_text.specs.Faults.{fault}
@@ -40,6 +42,21 @@ item K p = item_of p.at (tested K (word_of p.bytes))
 -- The items of a text from byte i on.
 abbrev pub items : ℕ → List ℕ → ℕ → List Item
 items K text i = map (item K) (words_from i (drop i text))
+
+-- How a part begins with a word; absent where none does.
+abbrev pub start_of : Word → Option Start
+start_of Yes = Some (Atom YesRow)
+start_of (Mark k) = Some (Atom (MarkRow k))
+start_of (Condition k) = Some (Atom (ConditionRow k))
+start_of (Before x) = Some (AtPrefix x)
+start_of (Routes q) = Some (AtQuantifier q)
+start_of Open = Some AtBracket
+start_of Until = None
+start_of And = None
+start_of Or = None
+start_of Close = None
+start_of OpenSquare = None
+start_of CloseSquare = None
 
 -- The items that are left: the word in hand, which stands at a byte, and those behind it.
 abbrev pub left : Option Word → ℕ → List Item → List Item

@@ -4,7 +4,7 @@ use crate::emit::{close_prefix, close_until, emit, open_prefix};
 use crate::fault::Fault;
 use crate::reader::Reader;
 use crate::table::Table;
-use crate::word::Word;
+use crate::word::{Start, Word};
 use tables::row::Operation;
 
 // What is left of a text, and the table that is made of it.
@@ -28,33 +28,23 @@ impl Parser<'_> {
         let Some(word) = self.reader.word else {
             return Err(self.reader.unfit());
         };
-        match word {
-            Word::Yes => {
-                self.reader.enter(levels)?;
-                Ok(emit(&mut self.table, Operation::Yes))
-            }
-            Word::Mark(k) => {
-                self.reader.enter(levels)?;
-                Ok(emit(&mut self.table, Operation::Mark(k)))
-            }
-            Word::Condition(k) => {
-                self.reader.enter(levels)?;
-                Ok(emit(&mut self.table, Operation::Condition(k)))
-            }
-            Word::Before(prefix) => {
-                self.reader.enter(levels)?;
+        let Some(start) = word.start() else {
+            return Err(self.reader.unfit());
+        };
+        self.reader.enter(levels)?;
+        match start {
+            Start::Atom(operation) => Ok(emit(&mut self.table, operation)),
+            Start::Prefix(prefix) => {
                 let first = open_prefix(&mut self.table, prefix);
                 let part = self.one(levels - 1)?;
                 Ok(close_prefix(&mut self.table, prefix, first, part))
             }
-            Word::Open => {
-                self.reader.enter(levels)?;
+            Start::Bracket => {
                 let whole = self.choice(levels - 1)?;
                 self.reader.take(Word::Close)?;
                 Ok(whole)
             }
-            Word::Routes(quantifier) => {
-                self.reader.enter(levels)?;
+            Start::Quantifier(quantifier) => {
                 self.reader.take(Word::OpenSquare)?;
                 let p = self.choice(levels - 1)?;
                 self.reader.take(Word::Until)?;
@@ -62,7 +52,6 @@ impl Parser<'_> {
                 self.reader.take(Word::CloseSquare)?;
                 Ok(close_until(&mut self.table, quantifier, p, q))
             }
-            _ => Err(self.reader.unfit()),
         }
     }
 
