@@ -1,50 +1,37 @@
 // The trial networks as lists, and their rules as tables.
-ghost use Rattle.std.specs.Prelude.{◌≡◌};
-ghost use Rattle.samples.specs.Networks.{p_marks, p_records, l_marks, l_records};
-
 use conditions::word::Word;
 use routing::binding::Binding;
 use tables::row::Operation;
 
-// The marks and bindings of P: place 0 has mark 0, place 1 has mark 1; 0 to 1 while condition 0 is on.
-pub fn network_p() -> ([u32; 2], [Binding<Word>; 1])
-    ensures marks { result.0 ≡ p_marks }
-    ensures bindings { result.1 ≡ p_records }
-{
-    let on = Word(0xAAAA_AAAA_AAAA_AAAA);
-    let binding = Binding {
+// P: place 0 has mark 0 and place 1 has mark 1; 0 to 1 while condition 0 is on.
+pub const P_MARKS: [u32; 2] = [1, 2];
+
+pub const P_BINDINGS: [Binding<Word>; 1] = [Binding {
+    from: 0,
+    to: 1,
+    set: Word(0xAAAA_AAAA_AAAA_AAAA),
+}];
+
+// L: place 0 has mark 0 and place 2 has mark 1; 0 to 1 always, 1 to 2 while condition 0 is on, 1 to 0 while it is off.
+pub const L_MARKS: [u32; 3] = [1, 0, 2];
+
+pub const L_BINDINGS: [Binding<Word>; 3] = [
+    Binding {
         from: 0,
         to: 1,
-        set: on,
-    };
-    ([1, 2], [binding])
-}
-
-// The marks and bindings of L: place 0 has mark 0, place 2 has mark 1; 0 to 1 always, 1 to 2 while condition 0 is on, 1 to 0
-// while it is off.
-pub fn network_l() -> ([u32; 3], [Binding<Word>; 3])
-    ensures marks { result.0 ≡ l_marks }
-    ensures bindings { result.1 ≡ l_records }
-{
-    let bindings = [
-        Binding {
-            from: 0,
-            to: 1,
-            set: Word(0xFFFF_FFFF_FFFF_FFFF),
-        },
-        Binding {
-            from: 1,
-            to: 2,
-            set: Word(0xAAAA_AAAA_AAAA_AAAA),
-        },
-        Binding {
-            from: 1,
-            to: 0,
-            set: Word(0x5555_5555_5555_5555),
-        },
-    ];
-    ([1, 0, 2], bindings)
-}
+        set: Word(0xFFFF_FFFF_FFFF_FFFF),
+    },
+    Binding {
+        from: 1,
+        to: 2,
+        set: Word(0xAAAA_AAAA_AAAA_AAAA),
+    },
+    Binding {
+        from: 1,
+        to: 0,
+        set: Word(0x5555_5555_5555_5555),
+    },
+];
 
 // AF m1: m1, not, some route keeps to it, not.
 pub const AF_M1: [Operation; 4] = [

@@ -3,7 +3,9 @@ use conditions::word::Word;
 use routing::binding::Binding;
 use routing::empty::Empty;
 use routing::refusal::Refusal;
-use samples::networks;
+use samples::networks::{
+    AF_M1, AG_EF_M1, EF_M1, EF_M1_OR_NOT_C0, L_BINDINGS, L_MARKS, P_BINDINGS, P_MARKS,
+};
 use std::process::Abort;
 use std::test::Fail;
 use tables::row::Row;
@@ -29,28 +31,26 @@ fn check_verdict(
 
 #[test]
 fn trial_network_p(rt: HostRuntime) -> Result<(), Fail> {
-    let (marks, records) = networks::network_p();
-    let table = networks::AF_M1.map(Row::from);
-    check_verdict(&rt, &marks, &records, &table, Verdict::Breaks(0, 0), 1)?;
-    let table = networks::EF_M1_OR_NOT_C0.map(Row::from);
-    check_verdict(&rt, &marks, &records, &table, Verdict::Holds, 1)
+    let table = AF_M1.map(Row::from);
+    check_verdict(&rt, &P_MARKS, &P_BINDINGS, &table, Verdict::Breaks(0, 0), 1)?;
+    let table = EF_M1_OR_NOT_C0.map(Row::from);
+    check_verdict(&rt, &P_MARKS, &P_BINDINGS, &table, Verdict::Holds, 1)
 }
 
 #[test]
 fn trial_network_l(rt: HostRuntime) -> Result<(), Fail> {
-    let (marks, records) = networks::network_l();
-    let table = networks::AF_M1.map(Row::from);
-    check_verdict(&rt, &marks, &records, &table, Verdict::Breaks(0, 0), 1)?;
-    let table = networks::AG_EF_M1.map(Row::from);
-    check_verdict(&rt, &marks, &records, &table, Verdict::Holds, 3)?;
-    let table = networks::EF_M1.map(Row::from);
-    check_verdict(&rt, &marks, &records, &table, Verdict::Holds, 3)
+    let table = AF_M1.map(Row::from);
+    check_verdict(&rt, &L_MARKS, &L_BINDINGS, &table, Verdict::Breaks(0, 0), 1)?;
+    let table = AG_EF_M1.map(Row::from);
+    check_verdict(&rt, &L_MARKS, &L_BINDINGS, &table, Verdict::Holds, 3)?;
+    let table = EF_M1.map(Row::from);
+    check_verdict(&rt, &L_MARKS, &L_BINDINGS, &table, Verdict::Holds, 3)
 }
 
 // With no places there are no entries, so that each rule holds, at once and with no sets lent.
 #[test]
 fn no_places(rt: HostRuntime) -> Result<(), Fail> {
-    let table = networks::AF_M1.map(Row::from);
+    let table = AF_M1.map(Row::from);
     let net: Empty<Word> = Empty::default();
     let judgement = judge_entries(&net, &table, &mut [], &mut [])?;
     let verdict = Verdict::Holds;
@@ -63,9 +63,8 @@ fn no_places(rt: HostRuntime) -> Result<(), Fail> {
 fn short_list(rt: HostRuntime) {
     let mut main = [Word(7); 11];
     let mut spare = [Word(7); 6];
-    let (marks, records) = networks::network_l();
-    let table = networks::AF_M1.map(Row::from);
-    let judged = judge_site(&marks, &records, &table, &mut main, &mut spare);
+    let table = AF_M1.map(Row::from);
+    let judged = judge_site(&L_MARKS, &L_BINDINGS, &table, &mut main, &mut spare);
     assert_eq!(rt; judged, Err(Refusal::TooShort));
     assert!(rt; main == [Word(7); 11] && spare == [Word(7); 6]);
 }

@@ -1,9 +1,9 @@
 // Rehearsals on a network of two places: 0, the entry, and 1, with mark 1.
 use conditions::word::Word;
-use verdicts::rehearse::rehearse;
 use routing::binding::Binding;
 use routing::refusal::Refusal;
 use tables::row::{Operation, Row};
+use verdicts::rehearse::rehearse;
 use verdicts::verdict::Verdict;
 
 const MARKS: [u32; 2] = [1, 2];
