@@ -22,15 +22,6 @@ named_shape N b P Q op o e h = subst (λ (v : Operation). Decided N b (Shape N v
 pub named_rounds : (N : Net) (P Q : Pos → Type 0) (op o : Operation) (r : ℕ) → op ≡ o → Rounds N o P Q r → Rounds N op P Q r
 named_rounds N P Q op o r e h = subst (λ (v : Operation). Rounds N v P Q r) (sym e) h
 
--- What a rule makes of a copy of the first operand and, twice, of the second decides D, where it makes of a single second what decides D.
-pub combined : {S : Type 0} (holds : S → ℕ → Bool) (N : Net) (first second copy after : List S) (rule : Bool → Bool → Bool → Bool) (both : Bool → Bool → Bool) (D : Pos → Type 0)
-    → ((s t : Bool) → rule s t t ≡ both s t) → copy ≡ first
-    → ((x : Pos) → Within N x → covers holds after x ≡ rule (covers holds copy x) (covers holds second x) (covers holds second x))
-    → ((x : Pos) → Within N x → Decides (both (covers holds first x) (covers holds second x)) (D x)) → Decided N (covers holds after) D
-combined holds N first second copy after rule both D twice copied made decides x w =
-    Decides-at (covers holds after x) (both (covers holds first x) (covers holds second x))
-    (made x w ∙ twice (covers holds copy x) (covers holds second x) ∙ ap (λ (xs : List _). both (covers holds xs x) (covers holds second x)) copied) (decides x w)
-
 -- A test that stays, of a set that is said in another way.
 pub decided_like : (N : Net) (b : Pos → Bool) (P Q : Pos → Type 0) → ((x : Pos) → Within N x → P x ↔ Q x) → Decided N b P → Decided N b Q
 decided_like N b P Q same d x w = Decides-like (b x) (same x w).0 (same x w).1 (d x w)

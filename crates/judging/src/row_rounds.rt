@@ -79,44 +79,46 @@ fn settle<N: Network, F: Fn(N::Set, N::Set, N::Set) -> N::Set + Copy>(
     n
 }
 
-// The rounds of E[p U q]: `part` has q, and at the end the positions of the rule; answers the rounds.
+// The rounds of E[p U q]: writes the positions of the rule to `part`, and answers the rounds; `q` is used on the way.
 pub(crate) fn until_rounds<N: Network>(
     net: &N,
     part: &mut [N::Set],
     p: &[N::Set],
-    into: &mut [N::Set],
+    q: &mut [N::Set],
 ) -> usize
     requires part { PerPlace (N.meaning net.now) part.old }
     requires p { PerPlace (N.meaning net.now) p.now }
-    requires into { PerPlace (N.meaning net.now) into.old }
+    requires q { PerPlace (N.meaning net.now) q.old }
     ensures few { result ≤ places (N.meaning net.now) }
     ensures least { LeastStable (N.meaning net.now)
-        (Grown (N.meaning net.now) (Is (covers N.Set.ConditionSet.holds p.now)) (Is (covers N.Set.ConditionSet.holds part.old)))
+        (Grown (N.meaning net.now) (Is (covers N.Set.ConditionSet.holds p.now)) (Is (covers N.Set.ConditionSet.holds q.old)))
         result }
     ensures after { Decided (N.meaning net.now) (covers N.Set.ConditionSet.holds part.new)
-        (Grown (N.meaning net.now) (Is (covers N.Set.ConditionSet.holds p.now)) (Is (covers N.Set.ConditionSet.holds part.old))
+        (Grown (N.meaning net.now) (Is (covers N.Set.ConditionSet.holds p.now)) (Is (covers N.Set.ConditionSet.holds q.old))
         result) }
 {
-    settle(net, part, p, into, widened)
+    part.copy_from_slice(q);
+    settle(net, part, p, q, widened)
 }
 
-// The rounds of EG p: `part` has p, and at the end the positions of the rule; answers the rounds.
+// The rounds of EG p: writes the positions of the rule to `part`, and answers the rounds; `p` is used on the way.
 pub(crate) fn always_rounds<N: Network>(
     net: &N,
     part: &mut [N::Set],
+    p: &mut [N::Set],
     rests: &[N::Set],
-    into: &mut [N::Set],
 ) -> usize
     requires part { PerPlace (N.meaning net.now) part.old }
+    requires p { PerPlace (N.meaning net.now) p.old }
     requires rests { PerPlace (N.meaning net.now) rests.now }
-    requires into { PerPlace (N.meaning net.now) into.old }
     requires rested { Decided (N.meaning net.now)
         (covers N.Set.ConditionSet.holds rests.now) (Rests (N.meaning net.now)) }
     ensures few { result ≤ places (N.meaning net.now) }
     ensures least { LeastStable (N.meaning net.now)
-        (Kept (N.meaning net.now) (Is (covers N.Set.ConditionSet.holds part.old))) result }
+        (Kept (N.meaning net.now) (Is (covers N.Set.ConditionSet.holds p.old))) result }
     ensures after { Decided (N.meaning net.now) (covers N.Set.ConditionSet.holds part.new)
-        (Kept (N.meaning net.now) (Is (covers N.Set.ConditionSet.holds part.old)) result) }
+        (Kept (N.meaning net.now) (Is (covers N.Set.ConditionSet.holds p.old)) result) }
 {
-    settle(net, part, rests, into, narrowed)
+    part.copy_from_slice(p);
+    settle(net, part, rests, p, narrowed)
 }

@@ -1,10 +1,11 @@
 // Working one row of a table.
-ghost use Rattle.std.specs.Prelude.{◌≡◌, ◌+◌, ◌*◌, ◌^◌, ◌<◌, ◌≤◌, true, ◌&&◌, length, take, drop, IfSome, if◌then◌else◌, Some, None, nat_lt, slice_index};
+ghost use Rattle.std.specs.Prelude.{◌≡◌, ◌+◌, ◌*◌, ◌^◌, ◌<◌, ◌≤◌, ℕ, Bool, true, ◌&&◌, length, take, drop, IfSome, if◌then◌else◌, Some, None, nat_lt, slice_index};
 ghost use Rattle.conditions.specs.Sets.{bit};
 ghost use Rattle.routing.specs.Net.{Pos, Rests, places};
 ghost use Rattle.rounds.specs.Claims.{Is};
 ghost use Rattle.rounds.specs.Rounds.{Decided};
 ghost use Rattle.tables.specs.Tables.{coded};
+ghost use Rattle.judging.specs.Callbacks.{Makes};
 ghost use Rattle.judging.specs.Judged.{covers, row_part, PerPlace, HasHalves, HasPart};
 ghost use Rattle.judging.specs.Shapes.{Shape, Rounds, Named, first_is_row, second_is_row};
 
@@ -51,6 +52,26 @@ fn write_rests<N: Network>(net: &N, part: &mut [N::Set], out: &mut [N::Set])
     complement_all(out);
 }
 
+// Writes to each place what the rule makes of its set in one list and, twice, of that in another.
+fn write_combined<S: ConditionSet, F: Fn(S, S, S) -> S + Copy>(
+    part: &mut [S],
+    first: &[S],
+    second: &[S],
+    rule: F,
+)
+    requires callable { F.IsAlwaysCallable rule }
+    requires first { length first.now ≡ length part.old }
+    requires second { length second.now ≡ length part.old }
+    ensures { (f : Bool → Bool → Bool → Bool) → Makes S.ConditionSet.holds (F.post rule) f
+        → (x : Pos) → x.place < length part.old
+        → covers S.ConditionSet.holds part.new x
+        ≡ f (covers S.ConditionSet.holds first.now x)
+        (covers S.ConditionSet.holds second.now x) (covers S.ConditionSet.holds second.now x) }
+{
+    part.copy_from_slice(first);
+    let _ = combine(part, second, second, rule);
+}
+
 // Writes the positions of a row to `part`, where `first` and `second` hold those of its operands; answers the row's rounds.
 fn work_row<N: Network>(
     net: &N,
@@ -89,27 +110,21 @@ fn work_row<N: Network>(
             0
         }
         Operation::And(_, _) => {
-            part.copy_from_slice(first);
-            let _ = combine(part, second, second, narrowed);
+            write_combined(part, first, second, narrowed);
             0
         }
         Operation::Or(_, _) => {
-            part.copy_from_slice(first);
-            let _ = combine(part, second, second, widened);
+            write_combined(part, first, second, widened);
             0
         }
         Operation::Next(_) => {
             steps_into(net, first, part);
             0
         }
-        Operation::Until(_, _) => {
-            part.copy_from_slice(second);
-            until_rounds(net, part, first, second)
-        }
+        Operation::Until(_, _) => { until_rounds(net, part, first, second) }
         Operation::Always(_) => {
             write_rests(net, part, second);
-            part.copy_from_slice(first);
-            always_rounds(net, part, second, first)
+            always_rounds(net, part, first, second)
         }
     }
 }
