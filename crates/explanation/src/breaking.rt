@@ -1,5 +1,5 @@
 // Which parts of a rule a route is shown of, and where the rule breaks.
-use crate::parts::{negated, operation};
+use crate::parts::{always_part, negated, operation, until_parts};
 use tables::row::{Operation, Row};
 
 #[derive(Clone, Copy)]
@@ -19,17 +19,8 @@ pub(crate) fn breaking_parts(rows: &[Row], rule: u8) -> Option<Breaking> {
     match operation(rows, p)? {
         Operation::Next(_) => Some(Breaking::Step(p)),
         Operation::Until(_, _) | Operation::Always(_) => Some(Breaking::Route(p)),
-        Operation::Or(q, r) if is_until(rows, q) && is_always(rows, r) => Some(Breaking::Either(
-            q, r,
-        )),
+        Operation::Or(q, r) if until_parts(rows, q).is_some() && always_part(rows, r).is_some() =>
+            Some(Breaking::Either(q, r)),
         _ => None,
     }
-}
-
-fn is_until(rows: &[Row], part: u8) -> bool {
-    matches!(operation(rows, part), Some(Operation::Until(_, _)))
-}
-
-fn is_always(rows: &[Row], part: u8) -> bool {
-    matches!(operation(rows, part), Some(Operation::Always(_)))
 }

@@ -24,6 +24,30 @@ pub(crate) fn negated(rows: &[Row], part: u8) -> Option<u8> {
     }
 }
 
+// The two parts of "E[p U q]".
+pub(crate) fn until_parts(rows: &[Row], part: u8) -> Option<(u8, u8)> {
+    match operation(rows, part) {
+        Some(Operation::Until(p, q)) => Some((p, q)),
+        _ => None,
+    }
+}
+
+// The two parts of "p & q".
+pub(crate) fn and_parts(rows: &[Row], part: u8) -> Option<(u8, u8)> {
+    match operation(rows, part) {
+        Some(Operation::And(p, q)) => Some((p, q)),
+        _ => None,
+    }
+}
+
+// The part of "EG p".
+pub(crate) fn always_part(rows: &[Row], part: u8) -> Option<u8> {
+    match operation(rows, part) {
+        Some(Operation::Always(p)) => Some(p),
+        _ => None,
+    }
+}
+
 pub(crate) fn says_yes(rows: &[Row], part: u8) -> bool {
     matches!(operation(rows, part), Some(Operation::Yes))
 }

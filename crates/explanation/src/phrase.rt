@@ -1,5 +1,5 @@
 // How a part of a rule is said: words around parts of its own.
-use crate::parts::{negated, operation, says_yes};
+use crate::parts::{always_part, and_parts, negated, operation, says_yes, until_parts};
 use tables::row::{Operation, Row};
 
 #[derive(Clone, Copy)]
@@ -64,38 +64,6 @@ impl Phrase {
     }
 }
 
-// The phrase of "not p" where it is none about every step or route.
-fn opposite(rows: &[Row], p: u8) -> Phrase {
-    match operation(rows, p) {
-        Some(Operation::Condition(k)) => Phrase::Off(k),
-        _ => Phrase::Not(p),
-    }
-}
-
-// The two parts of "E[p U q]".
-fn until_parts(rows: &[Row], part: u8) -> Option<(u8, u8)> {
-    match operation(rows, part) {
-        Some(Operation::Until(p, q)) => Some((p, q)),
-        _ => None,
-    }
-}
-
-// The two parts of "p & q".
-fn and_parts(rows: &[Row], part: u8) -> Option<(u8, u8)> {
-    match operation(rows, part) {
-        Some(Operation::And(p, q)) => Some((p, q)),
-        _ => None,
-    }
-}
-
-// The part of "EG p".
-fn always_part(rows: &[Row], part: u8) -> Option<u8> {
-    match operation(rows, part) {
-        Some(Operation::Always(p)) => Some(p),
-        _ => None,
-    }
-}
-
 // The phrase of A[p U q], which is "not (E[!q U !p & !q] or EG !q)"; `until` and `always` are the two parts.
 fn every_until(rows: &[Row], until: u8, always: u8) -> Option<Phrase> {
     let (before, end) = until_parts(rows, until)?;
@@ -125,6 +93,17 @@ fn every(rows: &[Row], p: u8) -> Option<Phrase> {
     }
 }
 
+// The phrase of "not p".
+fn opposite(rows: &[Row], p: u8) -> Phrase {
+    if let Some(phrase) = every(rows, p) {
+        return phrase;
+    }
+    match operation(rows, p) {
+        Some(Operation::Condition(k)) => Phrase::Off(k),
+        _ => Phrase::Not(p),
+    }
+}
+
 fn some_step(rows: &[Row], p: u8) -> Phrase {
     if says_yes(rows, p) {
         Phrase::SomeStep
@@ -147,7 +126,7 @@ pub(crate) fn phrase_of(rows: &[Row], part: u8) -> Option<Phrase> {
         Operation::Yes => Phrase::Yes,
         Operation::Mark(k) => Phrase::Mark(k),
         Operation::Condition(k) => Phrase::On(k),
-        Operation::Not(p) => every(rows, p).unwrap_or_else(|| opposite(rows, p)),
+        Operation::Not(p) => opposite(rows, p),
         Operation::And(p, q) => Phrase::And(p, q),
         Operation::Or(p, q) => Phrase::Or(p, q),
         Operation::Next(p) => some_step(rows, p),
