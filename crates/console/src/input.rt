@@ -1,5 +1,5 @@
 // Reading a plan's file in bounded memory.
-use crate::problem::{Problem, Source};
+use crate::problem::{Problem, Source, Task};
 use plan::oversize::LONGEST;
 use std::alloc::Global;
 use std::fs::File;
@@ -37,7 +37,7 @@ fn read_from<R: Read + Drop>(heap: Global, reader: R, source: Source) -> Result<
         Err(error) if error.kind() == ErrorKind::OutOfMemory && error.raw_os_error().is_none() => {
             Err(Problem::NoMemory)
         }
-        Err(error) => Err(Problem::Unread(source, error)),
+        Err(error) => Err(Problem::Undone(Task::Read(source), error)),
     }
 }
 
@@ -48,7 +48,7 @@ pub(crate) fn read_source(rt: &HostRuntime, source: Source) -> Result<Input, Pro
         Source::Stdin => read_from(heap, rt.stdin(), Source::Stdin),
         Source::File(name) => match File::open(rt, &name) {
             Ok(file) => read_from(heap, file, Source::File(name)),
-            Err(error) => Err(Problem::Unopened(name, error)),
+            Err(error) => Err(Problem::Undone(Task::Open(name), error)),
         },
     }
 }

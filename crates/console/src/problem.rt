@@ -10,20 +10,27 @@ pub enum Source {
     File(String),
 }
 
+// What the program asks of the system.
+#[derive(Drop)]
+pub enum Task {
+    // To hand over the words of the command line, as text.
+    ReadWords,
+    Open(String),
+    Read(Source),
+    // To write to standard output.
+    Write,
+}
+
 #[derive(Drop)]
 pub enum Problem {
-    // The words of the command line are not to be had, or are no text.
-    NoWords(io::Error),
+    // The task is not done, for what the system says.
+    Undone(Task, io::Error),
     UnknownOption(String),
     // The command line names this plan after another.
     SecondPlan(String),
-    Unopened(String, io::Error),
-    Unread(Source, io::Error),
     // The input has more bytes than can be counted.
     Uncounted(Source),
     Refused(RefusedPlan),
-    // Standard output cannot be written.
-    Unwritten(io::Error),
     NoMemory,
 }
 
@@ -52,20 +59,39 @@ impl fmt::Display for Source {
     }
 }
 
-// Writes what cannot be done to what, and what the system says of it.
-fn write_error<W: fmt::Write>(
+impl Task {
+    // What it is done to.
+    fn name(&self) -> &str {
+        match self {
+            Task::ReadWords => "the command line",
+            Task::Open(name) => name,
+            Task::Read(source) => source.name(),
+            Task::Write => "standard output",
+        }
+    }
+
+    fn done(&self) -> &'static str {
+        match self {
+            Task::ReadWords | Task::Read(_) => "read",
+            Task::Open(_) => "opened",
+            Task::Write => "written",
+        }
+    }
+}
+
+// Writes what cannot be done, and what the system says of it.
+fn write_undone<W: fmt::Write>(
     f: &mut fmt::Formatter<W>,
-    what: &str,
-    done: &str,
+    task: &Task,
     error: &io::Error,
 ) -> fmt::Result {
-    write!(f, "{what} cannot be {done}: {error}")
+    write!(f, "{} cannot be {}: {error}", task.name(), task.done())
 }
 
 impl fmt::Display for Problem {
     fn fmt<W: fmt::Write>(&self, f: &mut fmt::Formatter<W>) -> fmt::Result {
         match self {
-            Problem::NoWords(error) => write_error(f, "the command line", "read", error),
+            Problem::Undone(task, error) => write_undone(f, task, error),
             Problem::UnknownOption(word) => write!(
                 f,
                 "there is no option {word}; --help says what there is"
@@ -74,11 +100,8 @@ impl fmt::Display for Problem {
                 f,
                 "{name} is a second plan; one plan is read at a time"
             ),
-            Problem::Unopened(name, error) => write_error(f, name, "opened", error),
-            Problem::Unread(source, error) => write_error(f, source.name(), "read", error),
             Problem::Uncounted(source) => write!(f, "{source} is too long to be counted"),
-            Problem::Refused(plan) => write!(f, "{plan}"),
-            Problem::Unwritten(error) => write_error(f, "standard output", "written", error),
+            Problem::Refused(plan) => fmt::Display::fmt(plan, f),
             Problem::NoMemory => f.write_str("there is not enough memory"),
         }
     }

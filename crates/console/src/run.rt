@@ -2,7 +2,7 @@
 use crate::command::{Command, Request, read_words};
 use crate::help::HELP;
 use crate::input::{Input, read_source};
-use crate::problem::Problem;
+use crate::problem::{Problem, Task};
 use crate::refused::RefusedPlan;
 use explanation::explain::explained;
 use report::file::report_front;
@@ -11,7 +11,10 @@ use std::io::Write;
 use std::process::ExitCode;
 
 fn print(rt: &HostRuntime, bytes: &[u8]) -> Result<(), Problem> {
-    rt.stdout().write_all(bytes).map_err(Problem::Unwritten)
+    match rt.stdout().write_all(bytes) {
+        Ok(()) => Ok(()),
+        Err(error) => Err(Problem::Undone(Task::Write, error)),
+    }
 }
 
 // Prints the report of a plan file, with what explains it if that is asked for.
@@ -49,9 +52,15 @@ fn check(rt: &HostRuntime, request: Request) -> Result<(), Problem> {
     }))
 }
 
+fn read_command(rt: &HostRuntime) -> Result<Command, Problem> {
+    match env::args(rt) {
+        Ok(words) => read_words(words),
+        Err(error) => Err(Problem::Undone(Task::ReadWords, error)),
+    }
+}
+
 fn serve(rt: &HostRuntime) -> Result<(), Problem> {
-    let words = env::args(rt).map_err(Problem::NoWords)?;
-    match read_words(words)? {
+    match read_command(rt)? {
         Command::Help => print(rt, HELP.as_bytes()),
         Command::Check(request) => check(rt, request),
     }

@@ -3,7 +3,7 @@
 
 mod breaking;
 pub mod explain;
-mod part;
+mod parts;
 mod phrase;
 pub mod text;
 mod words;

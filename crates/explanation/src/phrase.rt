@@ -1,100 +1,136 @@
 // How a part of a rule is said: words around parts of its own.
-use crate::part::Part;
-use tables::row::Operation;
+use crate::parts::{always_part, and_parts, negated, operation, says_yes, until_parts};
+use tables::row::{Operation, Row};
 
-#[derive(Drop)]
-pub(crate) enum Phrase<'a> {
+#[derive(Clone, Copy)]
+pub(crate) enum Phrase {
     Yes,
     Mark(u8),
     // The condition is on; it is off.
     On(u8),
     Off(u8),
-    // Words without a part.
-    Fact(&'static str),
-    And(Part<'a>, Part<'a>),
-    Or(Part<'a>, Part<'a>),
-    // Words, and the part behind them.
-    Of(&'static str, Part<'a>),
-    // Words, the first part, words, and the second part.
-    OfTwo(&'static str, Part<'a>, &'static str, Part<'a>),
+    Not(u8),
+    And(u8, u8),
+    Or(u8, u8),
+    // Some step leads on; none does.
+    SomeStep,
+    NoStep,
+    // Some step, every step, leads to the part.
+    SomeStepTo(u8),
+    EveryStepTo(u8),
+    // Some route, every route, comes to the part.
+    SomeComesTo(u8),
+    EveryComesTo(u8),
+    // Every position of some route, of every route, has the part.
+    SomeHas(u8),
+    EveryHas(u8),
+    // Some route, every route, has the first part until it comes to the second.
+    SomeUntil(u8, u8),
+    EveryUntil(u8, u8),
 }
 
-// The phrase of "not p" where it is none about every step or route.
-fn opposite(p: Part<'_>) -> Phrase<'_> {
-    match p.operation() {
-        Some(Operation::Condition(k)) => Phrase::Off(k),
-        _ => Phrase::Of("not ", p),
+impl Phrase {
+    // The words in front of its number or first part, or all its words.
+    pub(crate) fn front(self) -> &'static str {
+        match self {
+            Phrase::Yes => "yes",
+            Phrase::Mark(_) => "mark ",
+            Phrase::On(_) | Phrase::Off(_) => "condition ",
+            Phrase::Not(_) => "not ",
+            Phrase::And(_, _) | Phrase::Or(_, _) => "",
+            Phrase::SomeStep => "some step leads on",
+            Phrase::NoStep => "no step leads on",
+            Phrase::SomeStepTo(_) => "some step leads to ",
+            Phrase::EveryStepTo(_) => "every step leads to ",
+            Phrase::SomeComesTo(_) => "some route comes to ",
+            Phrase::EveryComesTo(_) => "every route comes to ",
+            Phrase::SomeHas(_) => "every position of some route has ",
+            Phrase::EveryHas(_) => "every position of every route has ",
+            Phrase::SomeUntil(_, _) => "some route has ",
+            Phrase::EveryUntil(_, _) => "every route has ",
+        }
+    }
+
+    // The words behind its number or first part.
+    pub(crate) fn behind(self) -> &'static str {
+        match self {
+            Phrase::On(_) => " on",
+            Phrase::Off(_) => " off",
+            Phrase::And(_, _) => " and ",
+            Phrase::Or(_, _) => " or ",
+            Phrase::SomeUntil(_, _) | Phrase::EveryUntil(_, _) => " until it comes to ",
+            _ => "",
+        }
     }
 }
 
 // The phrase of A[p U q], which is "not (E[!q U !p & !q] or EG !q)"; `until` and `always` are the two parts.
-fn every_until<'a>(until: Part<'a>, always: Part<'a>) -> Option<Phrase<'a>> {
-    let Operation::Until(before, end) = until.operation()? else {
-        return None;
-    };
-    let Operation::Always(never) = always.operation()? else {
-        return None;
-    };
-    let Operation::And(without_p, without_q) = until.at(end).operation()? else {
-        return None;
-    };
-    if before != never || before != without_q {
+fn every_until(rows: &[Row], until: u8, always: u8) -> Option<Phrase> {
+    let (before, end) = until_parts(rows, until)?;
+    let (without_p, without_q) = and_parts(rows, end)?;
+    if before != always_part(rows, always)? || before != without_q {
         return None;
     }
-    let p = until.at(without_p).negated()?;
-    let q = until.at(without_q).negated()?;
-    if p.says_yes() {
-        return Some(Phrase::Of("every route comes to ", q));
+    let p = negated(rows, without_p)?;
+    let q = negated(rows, without_q)?;
+    if says_yes(rows, p) {
+        return Some(Phrase::EveryComesTo(q));
     }
-    Some(Phrase::OfTwo("every route has ", p, " until it comes to ", q))
-}
-
-// Words, and the part that is negated; absent where the part is no `not`.
-fn of_negated<'a>(words: &'static str, part: Part<'a>) -> Option<Phrase<'a>> {
-    Some(Phrase::Of(words, part.negated()?))
+    Some(Phrase::EveryUntil(p, q))
 }
 
 // The phrase of a rule about every step or route, which is "not p" for a p of this shape.
-fn every(p: Part<'_>) -> Option<Phrase<'_>> {
-    match p.operation()? {
-        Operation::Next(q) if p.at(q).says_yes() => Some(Phrase::Fact("no step leads on")),
-        Operation::Next(q) => of_negated("every step leads to ", p.at(q)),
-        Operation::Always(q) => of_negated("every route comes to ", p.at(q)),
-        Operation::Until(before, q) if p.at(before).says_yes() => {
-            of_negated("every position of every route has ", p.at(q))
+fn every(rows: &[Row], p: u8) -> Option<Phrase> {
+    match operation(rows, p)? {
+        Operation::Next(q) if says_yes(rows, q) => Some(Phrase::NoStep),
+        Operation::Next(q) => negated(rows, q).map(Phrase::EveryStepTo),
+        Operation::Always(q) => negated(rows, q).map(Phrase::EveryComesTo),
+        Operation::Until(before, q) if says_yes(rows, before) => {
+            negated(rows, q).map(Phrase::EveryHas)
         }
-        Operation::Or(until, always) => every_until(p.at(until), p.at(always)),
+        Operation::Or(until, always) => every_until(rows, until, always),
         _ => None,
     }
 }
 
-fn some_step(p: Part<'_>) -> Phrase<'_> {
-    if p.says_yes() {
-        Phrase::Fact("some step leads on")
-    } else {
-        Phrase::Of("some step leads to ", p)
+// The phrase of "not p".
+fn opposite(rows: &[Row], p: u8) -> Phrase {
+    if let Some(phrase) = every(rows, p) {
+        return phrase;
+    }
+    match operation(rows, p) {
+        Some(Operation::Condition(k)) => Phrase::Off(k),
+        _ => Phrase::Not(p),
     }
 }
 
-fn some_until<'a>(p: Part<'a>, q: Part<'a>) -> Phrase<'a> {
-    if p.says_yes() {
-        Phrase::Of("some route comes to ", q)
+fn some_step(rows: &[Row], p: u8) -> Phrase {
+    if says_yes(rows, p) {
+        Phrase::SomeStep
     } else {
-        Phrase::OfTwo("some route has ", p, " until it comes to ", q)
+        Phrase::SomeStepTo(p)
+    }
+}
+
+fn some_until(rows: &[Row], p: u8, q: u8) -> Phrase {
+    if says_yes(rows, p) {
+        Phrase::SomeComesTo(q)
+    } else {
+        Phrase::SomeUntil(p, q)
     }
 }
 
 // The phrase of a part; absent where it is no row of its table.
-pub(crate) fn phrase_of(part: Part<'_>) -> Option<Phrase<'_>> {
-    Some(match part.operation()? {
+pub(crate) fn phrase_of(rows: &[Row], part: u8) -> Option<Phrase> {
+    Some(match operation(rows, part)? {
         Operation::Yes => Phrase::Yes,
         Operation::Mark(k) => Phrase::Mark(k),
         Operation::Condition(k) => Phrase::On(k),
-        Operation::Not(p) => every(part.at(p)).unwrap_or_else(|| opposite(part.at(p))),
-        Operation::And(p, q) => Phrase::And(part.at(p), part.at(q)),
-        Operation::Or(p, q) => Phrase::Or(part.at(p), part.at(q)),
-        Operation::Next(p) => some_step(part.at(p)),
-        Operation::Until(p, q) => some_until(part.at(p), part.at(q)),
-        Operation::Always(p) => Phrase::Of("every position of some route has ", part.at(p)),
+        Operation::Not(p) => opposite(rows, p),
+        Operation::And(p, q) => Phrase::And(p, q),
+        Operation::Or(p, q) => Phrase::Or(p, q),
+        Operation::Next(p) => some_step(rows, p),
+        Operation::Until(p, q) => some_until(rows, p, q),
+        Operation::Always(p) => Phrase::SomeHas(p),
     })
 }

@@ -1,79 +1,101 @@
-// A plan, with room to judge its rules in and to show a route.
-use crate::breaking::{Breaking, BreakingRoute, breaking_parts};
-use crate::part::Part;
+// Room to judge the rules of a plan in, and to show routes.
+use crate::breaking::{Breaking, breaking_parts};
+use crate::parts::whole;
 use conditions::word::Word;
 use judging::route::route;
-use judging::shown::{RouteStep, Shown};
-use plan::file::PlanFile;
+use judging::shown::{Ending, RouteStep, Shown};
 use report::rule::{MAIN_ROOM, SPARE_ROOM};
-use routing::network::MOST_PLACES;
+use routing::network::{MOST_PLACES, Network};
 use routing::refusal::Refusal;
-use std::alloc::{AllocError, Global};
+use tables::row::Row;
 use verdicts::entries::judge_entries;
 use verdicts::verdict::Judgement;
 
 // One step more than places.
 const STEPS_ROOM: usize = MOST_PLACES + 1;
 
-#[derive(Drop)]
-pub(crate) struct Work<'a> {
-    pub(crate) plan: PlanFile<'a>,
-    main: Vec<Word>,
-    spare: Vec<Word>,
-    steps: Vec<RouteStep>,
+// What stands in the list of steps before a route is written.
+const NO_STEP: RouteStep = RouteStep {
+    place: 0,
+    setting: 0,
+};
+
+// A route that shows why a rule breaks: its steps, how it ends, and whether the rule is about steps.
+#[derive(Clone, Copy)]
+pub(crate) struct BreakingRoute<'a> {
+    pub(crate) steps: &'a [RouteStep],
+    pub(crate) ending: Ending,
+    pub(crate) is_of_step: bool,
 }
 
-impl<'a> Work<'a> {
-    pub(crate) fn new(heap: Global, plan: PlanFile<'a>) -> Result<Work<'a>, AllocError> {
-        let first = RouteStep {
-            place: 0,
-            setting: 0,
-        };
-        Ok(Work {
-            plan,
-            main: vec![in heap; Word(0); MAIN_ROOM]?,
-            spare: vec![in heap; Word(0); SPARE_ROOM]?,
-            steps: vec![in heap; first; STEPS_ROOM]?,
-        })
+#[derive(Drop)]
+pub(crate) struct Work {
+    main: [Word; MAIN_ROOM],
+    spare: [Word; SPARE_ROOM],
+    steps: [RouteStep; STEPS_ROOM],
+}
+
+impl Work {
+    pub(crate) fn new() -> Work {
+        Work {
+            main: [Word(0); MAIN_ROOM],
+            spare: [Word(0); SPARE_ROOM],
+            steps: [NO_STEP; STEPS_ROOM],
+        }
     }
 
-    // Judges a rule of the plan.
-    pub(crate) fn judge(&mut self, rule: Part<'_>) -> Result<Judgement, Refusal> {
-        judge_entries(&self.plan, rule.rows, &mut self.main, &mut self.spare)
+    // Judges a rule at the entries of a network.
+    pub(crate) fn judge<N: Network<Set = Word>>(
+        &mut self,
+        net: &N,
+        rows: &[Row],
+    ) -> Result<Judgement, Refusal> {
+        judge_entries(net, rows, &mut self.main, &mut self.spare)
     }
 
-    // Writes the steps of a route that shows a part at a position.
-    fn route(&mut self, part: Part<'_>, at: RouteStep) -> Result<Shown, Refusal> {
-        route(
-            &self.plan,
-            part.rows,
-            part.number,
-            at,
-            &mut self.main,
-            &mut self.spare,
-            &mut self.steps,
-        )
+    // Writes the steps of a route that shows a part at a position; absent where none does.
+    fn route<N: Network<Set = Word>>(
+        &mut self,
+        net: &N,
+        rows: &[Row],
+        part: u8,
+        at: RouteStep,
+    ) -> Option<Shown> {
+        let row = usize::from(part);
+        let Work { main, spare, steps } = self;
+        route(net, rows, row, at, main, spare, steps).ok()
+    }
+
+    // Writes the steps of a route that shows why a rule breaks.
+    fn break_route<N: Network<Set = Word>>(
+        &mut self,
+        net: &N,
+        rows: &[Row],
+        breaking: Breaking,
+        at: RouteStep,
+    ) -> Option<Shown> {
+        match breaking {
+            Breaking::Step(p) | Breaking::Route(p) => self.route(net, rows, p, at),
+            Breaking::Either(q, r) => match self.route(net, rows, q, at) {
+                None => self.route(net, rows, r, at),
+                shown => shown,
+            },
+        }
     }
 
     // A route that shows why a rule breaks at a position; absent where no single route shows it.
-    pub(crate) fn breaking_route<'r>(
-        &'r mut self,
-        rule: Part<'r>,
+    pub(crate) fn breaking_route<N: Network<Set = Word>>(
+        &mut self,
+        net: &N,
+        rows: &[Row],
         at: RouteStep,
-    ) -> Option<BreakingRoute<'r>> {
-        let shown_of = breaking_parts(rule)?;
-        let shown = match shown_of {
-            Breaking::Step(p) | Breaking::Route(p) => self.route(p, at),
-            Breaking::Either(q, r) => match self.route(q, at) {
-                Err(Refusal::RowFails) => self.route(r, at),
-                shown => shown,
-            },
-        };
-        let Shown { count, ending } = shown.ok()?;
+    ) -> Option<BreakingRoute<'_>> {
+        let breaking = breaking_parts(rows, whole(rows))?;
+        let Shown { count, ending } = self.break_route(net, rows, breaking, at)?;
         Some(BreakingRoute {
             steps: self.steps.get(..count)?,
             ending,
-            shown_of,
+            is_of_step: matches!(breaking, Breaking::Step(_)),
         })
     }
 }

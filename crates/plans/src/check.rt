@@ -1,6 +1,6 @@
 // Writing an example by the library, and comparing it with its file.
 use crate::example::Example;
-use anyhow::{Context, bail};
+use anyhow::{Context, ensure};
 use conditions::word::Word;
 use plan::oversize::LONGEST;
 use plan::write::write_plan;
@@ -45,12 +45,13 @@ fn print_report(rt: &impl Print, file: &[u8]) -> anyhow::Result<()> {
 pub fn check_example(rt: &HostRuntime, example: &Example) -> anyhow::Result<()> {
     let file = written(rt.alloc(), example)?;
     let kept = fs::read(rt, example.path(rt.alloc())?)?;
-    let name = example.name;
-    let length = file.len();
-    if file != kept {
-        println!(rt; "{name}: {length} bytes, and the file has others")?;
-        bail!("a plan differs from its file");
-    }
-    println!(rt; "{name}: {length} bytes, as the file has them")?;
+    let same = file == kept;
+    let found = if same {
+        "as the file has them"
+    } else {
+        "and the file has others"
+    };
+    println!(rt; "{}: {} bytes, {found}", example.name, file.len())?;
+    ensure!(same, "a plan differs from its file");
     print_report(rt, &kept)
 }

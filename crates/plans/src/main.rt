@@ -20,8 +20,10 @@ fn write_example(rt: &HostRuntime, example: &Example) -> anyhow::Result<()> {
 
 // Whether the first argument is `--write`.
 fn is_to_write(rt: &HostRuntime) -> anyhow::Result<bool> {
-    let first = env::args(rt)?.nth(1);
-    Ok(first.is_some_and(|argument| argument.as_str() == "--write"))
+    match env::args(rt)?.nth(1) {
+        Some(first) => Ok(first.as_str() == "--write"),
+        None => Ok(false),
+    }
 }
 
 fn run(rt: &HostRuntime) -> anyhow::Result<()> {

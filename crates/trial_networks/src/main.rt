@@ -7,6 +7,7 @@ use conditions::word::Word;
 use judging::route::route;
 use judging::shown::{Ending, RouteStep, Shown};
 use routing::binding::Binding;
+use routing::network::Network;
 use routing::refusal::Refusal;
 use routing::site::SiteTable;
 use samples::networks;
@@ -57,8 +58,8 @@ fn breaking_row(table: &[Row]) -> Option<usize> {
 }
 
 // A route that breaks a rule at an entry, written to `steps`.
-fn breaking_route<'a>(
-    site: &SiteTable<'_, Word>,
+fn breaking_route<'a, N: Network<Set = Word>>(
+    net: &N,
     table: &[Row],
     at: RouteStep,
     main: &mut [Word],
@@ -66,25 +67,25 @@ fn breaking_route<'a>(
     steps: &'a mut [RouteStep],
 ) -> Option<Route<'a>> {
     let row = breaking_row(table)?;
-    let Shown { count, ending } = route(site, table, row, at, main, spare, steps).ok()?;
+    let Shown { count, ending } = route(net, table, row, at, main, spare, steps).ok()?;
     let steps = steps.get(..count)?;
     Some(Route { steps, ending })
 }
 
 // Judges a rule at the entries of a network, and looks for a route that breaks it.
-fn find<'a>(
-    site: &SiteTable<'_, Word>,
+fn find<'a, N: Network<Set = Word>>(
+    net: &N,
     table: &[Row],
     steps: &'a mut [RouteStep],
 ) -> Result<Found<'a>, Refusal> {
     let mut main = [Word(0); MOST_ROWS * PLACES];
     let mut spare = [Word(0); 2 * PLACES];
-    let judgement = judge_entries(site, table, &mut main, &mut spare)?;
+    let judgement = judge_entries(net, table, &mut main, &mut spare)?;
     let route = match judgement.verdict {
         Verdict::Holds => None,
         Verdict::Breaks(place, setting) => {
             let at = RouteStep { place, setting };
-            breaking_route(site, table, at, &mut main, &mut spare, steps)
+            breaking_route(net, table, at, &mut main, &mut spare, steps)
         }
     };
     Ok(Found { judgement, route })
@@ -128,20 +129,15 @@ fn print_refusal(rt: &impl Print, refusal: Refusal) -> io::Result<()> {
     println!(rt; "refused {}", refusal.number())
 }
 
-// Prints what is found of each rule of a network, or `refused NUMBER`.
-fn print_network(
+// Prints what is found of each rule, or `refused NUMBER`.
+fn print_rules<N: Network<Set = Word>>(
     rt: &impl Print,
-    marks: &[u32],
-    records: &[Binding<Word>],
+    net: &N,
     rules: &[&[Row]],
 ) -> io::Result<()> {
-    let site = match SiteTable::open(marks, records) {
-        Ok(site) => site,
-        Err(refusal) => return print_refusal(rt, refusal),
-    };
     for (number, table) in rules.iter().enumerate() {
         let mut steps = [NO_STEP; PLACES + 1];
-        match find(&site, table, &mut steps) {
+        match find(net, table, &mut steps) {
             Ok(found) => print_found(rt, number, found)?,
             Err(refusal) => print_refusal(rt, refusal)?,
         }
@@ -149,24 +145,36 @@ fn print_network(
     Ok(())
 }
 
+// Prints the title of a network, and what is found of each of its rules, or `refused NUMBER`.
+fn print_network(
+    rt: &impl Print,
+    title: &str,
+    marks: &[u32],
+    records: &[Binding<Word>],
+    rules: &[&[Row]],
+) -> io::Result<()> {
+    println!(rt; "{title}")?;
+    match SiteTable::open(marks, records) {
+        Ok(site) => print_rules(rt, &site, rules),
+        Err(refusal) => print_refusal(rt, refusal),
+    }
+}
+
 fn main(rt: HostRuntime) -> io::Result<()> {
-    println!(rt;
-        "Network P: 0 (mark 0) to 1 (mark 1) while c0 is on. Rules: 0 AF m1, 1 EF m1 | !c0"
-    )?;
+    let title = "Network P: 0 (mark 0) to 1 (mark 1) while c0 is on. Rules: 0 AF m1, 1 EF m1 | !c0";
     let rules: [&[Row]; 2] = [
         &networks::AF_M1.map(Row::from),
         &networks::EF_M1_OR_NOT_C0.map(Row::from),
     ];
     let (marks, records) = networks::network_p();
-    print_network(&rt, &marks, &records, &rules)?;
-    println!(rt;
-        "Network L: 0 (mark 0) to 1 always, 1 to 2 (mark 1) while c0 is on, 1 to 0 while it is off. Rules: 0 AF m1, 1 AG EF m1, 2 EF m1"
-    )?;
+    print_network(&rt, title, &marks, &records, &rules)?;
+    let title =
+        "Network L: 0 (mark 0) to 1 always, 1 to 2 (mark 1) while c0 is on, 1 to 0 while it is off. Rules: 0 AF m1, 1 AG EF m1, 2 EF m1";
     let rules: [&[Row]; 3] = [
         &networks::AF_M1.map(Row::from),
         &networks::AG_EF_M1.map(Row::from),
         &networks::EF_M1.map(Row::from),
     ];
     let (marks, records) = networks::network_l();
-    print_network(&rt, &marks, &records, &rules)
+    print_network(&rt, title, &marks, &records, &rules)
 }
