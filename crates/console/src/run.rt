@@ -59,20 +59,27 @@ fn read_command(rt: &HostRuntime) -> Result<Command, Problem> {
     }
 }
 
-fn serve(rt: &HostRuntime) -> Result<(), Problem> {
-    match read_command(rt)? {
+fn fail(rt: &HostRuntime, problem: Problem) -> ExitCode {
+    let _ = eprintln!(rt; "routecheck: {problem}");
+    ExitCode::FAILURE
+}
+
+// Does what a command asks for, and answers the status to exit with. A failure is told on standard error.
+pub fn serve(rt: &HostRuntime, command: Command) -> ExitCode {
+    let done = match command {
         Command::Help => print(rt, HELP.as_bytes()),
         Command::Check(request) => check(rt, request),
+    };
+    match done {
+        Ok(()) => ExitCode::SUCCESS,
+        Err(problem) => fail(rt, problem),
     }
 }
 
-// Does what the command line asks for. A failure is told on standard error.
+// Does what the command line asks for, as `serve` does.
 pub fn run(rt: &HostRuntime) -> ExitCode {
-    match serve(rt) {
-        Ok(()) => ExitCode::SUCCESS,
-        Err(problem) => {
-            let _ = eprintln!(rt; "routecheck: {problem}");
-            ExitCode::FAILURE
-        }
+    match read_command(rt) {
+        Ok(command) => serve(rt, command),
+        Err(problem) => fail(rt, problem),
     }
 }

@@ -1,5 +1,5 @@
-// What judging, rehearsing and reading rule texts come to on small cases, by the libraries; and the words of the command
-// line, the text of --help, and what is said of refused plans.
+// What judging, rehearsals and rule texts come to in small cases; and of the command line its words, the text of --help, what is
+// said of refused plans, and the status that the program exits with.
 
 mod command;
 mod help;
@@ -7,3 +7,4 @@ mod networks;
 mod refused;
 mod rehearsals;
 mod rule_texts;
+mod status;

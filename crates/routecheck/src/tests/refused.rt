@@ -69,7 +69,7 @@ const TEXTS: [(&str, usize, &str); 6] = [
 ];
 
 // The plan with this text.
-fn plan_of(heap: Global, text: &[u8]) -> Result<Vec<u8>, AllocError> {
+pub(super) fn plan_of(heap: Global, text: &[u8]) -> Result<Vec<u8>, AllocError> {
     let length = u16::try_from(text.len()).unwrap_or(u16::MAX).to_le_bytes();
     let parts: [&[u8]; 3] = [&FRONT, &length, text];
     parts.concat(heap)

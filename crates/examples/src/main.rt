@@ -1,15 +1,17 @@
-// Writes the example plans from their records, compares each with its file, and prints its report.
-// Ends with an error where a file differs. It is run in the folder data/, which has the files;
-// `plans --write` makes them anew there.
+// Examples of the library. Judges the trial networks. Then writes the example plans from their records, compares each with its
+// file, and prints its report. Ends with an error where a file differs. It is run in the folder data/, which has the files;
+// `examples --write` makes them anew there.
 #![tactic(auto)]
 
 mod check;
 mod example;
+mod networks;
 mod trial;
 mod warehouse;
 
 use check::{check_example, written};
 use example::Example;
+use networks::print_networks;
 use std::{env, fs};
 
 fn write_example(rt: &HostRuntime, example: &Example) -> anyhow::Result<()> {
@@ -26,7 +28,7 @@ fn is_to_write(rt: &HostRuntime) -> anyhow::Result<bool> {
     }
 }
 
-fn run(rt: &HostRuntime) -> anyhow::Result<()> {
+fn check_plans(rt: &HostRuntime) -> anyhow::Result<()> {
     let examples = [trial::example(), warehouse::example()];
     if is_to_write(rt)? {
         for example in &examples {
@@ -40,5 +42,6 @@ fn run(rt: &HostRuntime) -> anyhow::Result<()> {
 }
 
 fn main(rt: HostRuntime) -> anyhow::Result<()> {
-    run(&rt)
+    print_networks(&rt)?;
+    check_plans(&rt)
 }

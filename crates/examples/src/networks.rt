@@ -1,7 +1,5 @@
-// An example of the library: judges two built-in trial networks of word sets and prints what it found, a line for each rule,
-// and below a rule that breaks the route that shows it.
-#![tactic(auto)]
-
+// The trial networks: judges them by the library and prints what it found, a line for each rule, and below a rule that breaks
+// the route that shows it.
 use conditions::set::ConditionSet;
 use conditions::word::Word;
 use judging::route::route;
@@ -10,7 +8,9 @@ use routing::binding::Binding;
 use routing::network::Network;
 use routing::refusal::Refusal;
 use routing::site::SiteTable;
-use samples::networks;
+use samples::networks::{
+    AF_M1, AG_EF_M1, EF_M1, EF_M1_OR_NOT_C0, L_BINDINGS, L_MARKS, P_BINDINGS, P_MARKS,
+};
 use std::io;
 use tables::row::{Operation, Row};
 use tables::table::{MOST_ROWS, read_row};
@@ -160,21 +160,17 @@ fn print_network(
     }
 }
 
-fn main(rt: HostRuntime) -> io::Result<()> {
+// Judges the trial networks P and L.
+pub fn print_networks(rt: &impl Print) -> io::Result<()> {
     let title = "Network P: 0 (mark 0) to 1 (mark 1) while c0 is on. Rules: 0 AF m1, 1 EF m1 | !c0";
-    let rules: [&[Row]; 2] = [
-        &networks::AF_M1.map(Row::from),
-        &networks::EF_M1_OR_NOT_C0.map(Row::from),
-    ];
-    let (marks, records) = networks::network_p();
-    print_network(&rt, title, &marks, &records, &rules)?;
+    let rules: [&[Row]; 2] = [&AF_M1.map(Row::from), &EF_M1_OR_NOT_C0.map(Row::from)];
+    print_network(rt, title, &P_MARKS, &P_BINDINGS, &rules)?;
     let title =
         "Network L: 0 (mark 0) to 1 always, 1 to 2 (mark 1) while c0 is on, 1 to 0 while it is off. Rules: 0 AF m1, 1 AG EF m1, 2 EF m1";
     let rules: [&[Row]; 3] = [
-        &networks::AF_M1.map(Row::from),
-        &networks::AG_EF_M1.map(Row::from),
-        &networks::EF_M1.map(Row::from),
+        &AF_M1.map(Row::from),
+        &AG_EF_M1.map(Row::from),
+        &EF_M1.map(Row::from),
     ];
-    let (marks, records) = networks::network_l();
-    print_network(&rt, title, &marks, &records, &rules)
+    print_network(rt, title, &L_MARKS, &L_BINDINGS, &rules)
 }
