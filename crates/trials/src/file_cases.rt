@@ -1,47 +1,49 @@
 // Reports damaged and whole plan files whose lines are worked out by hand, and compares.
 // Prints what came; it is an error where a line differs, or where some refusal never came.
 
-mod case;
 mod cases;
 mod files;
 mod trial;
 
 use crate::file_cases::cases::{fields, orders, texts, whole};
-use crate::file_cases::trial::try_cases;
-use crate::outcomes::Outcomes;
-use anyhow::ensure;
+use crate::file_cases::trial::try_list;
+use crate::tried::Tried;
+use std::alloc::AllocError;
 use std::io;
 
 // The numbers of the refusals.
 const REFUSALS: [u8; 9] = [1, 2, 3, 4, 5, 6, 7, 8, 9];
 
-fn try_fields(rt: &HostRuntime, outcomes: &mut Outcomes) -> anyhow::Result<()> {
-    try_cases(rt, "cut", &fields::CUT, outcomes)?;
-    try_cases(rt, "counts", &fields::COUNTS, outcomes)?;
-    try_cases(rt, "contents", &fields::CONTENTS, outcomes)
+static LISTS: [&str; 15] = [
+    whole::WHOLE,
+    fields::CUT,
+    fields::COUNTS,
+    fields::CONTENTS,
+    fields::LENGTHS,
+    fields::FILE_END,
+    fields::BINDING_ENDS,
+    texts::TEXTS,
+    orders::UNDER_24,
+    orders::COUNTS,
+    orders::CONTENTS,
+    orders::LENGTHS,
+    orders::FILE_END,
+    orders::BINDING_ENDS,
+    orders::TEXTS,
+];
+
+// Reports all files.
+fn try_lists(tried: &mut Tried) -> Result<(), AllocError> {
+    for list in &LISTS {
+        try_list(list, tried)?;
+    }
+    Ok(())
 }
 
-fn try_ends(rt: &HostRuntime, outcomes: &mut Outcomes) -> anyhow::Result<()> {
-    try_cases(rt, "lengths", &fields::LENGTHS, outcomes)?;
-    try_cases(rt, "file end", &fields::FILE_END, outcomes)?;
-    try_cases(rt, "binding ends", &fields::BINDING_ENDS, outcomes)
-}
-
-fn try_orders(rt: &HostRuntime, outcomes: &mut Outcomes) -> anyhow::Result<()> {
-    try_cases(rt, "orders, under 24", &orders::UNDER_24, outcomes)?;
-    try_cases(rt, "orders, counts", &orders::COUNTS, outcomes)?;
-    try_cases(rt, "orders, contents", &orders::CONTENTS, outcomes)
-}
-
-fn try_end_orders(rt: &HostRuntime, outcomes: &mut Outcomes) -> anyhow::Result<()> {
-    try_cases(rt, "orders, lengths", &orders::LENGTHS, outcomes)?;
-    try_cases(rt, "orders, file end", &orders::FILE_END, outcomes)?;
-    try_cases(rt, "orders, binding ends", &orders::BINDING_ENDS, outcomes)?;
-    try_cases(rt, "orders, texts", &orders::TEXTS, outcomes)
-}
-
-// Prints a line for each count.
-fn print_counts(rt: &impl Print, outcomes: &Outcomes) -> io::Result<()> {
+// Prints the differences, and a line for each count.
+fn print_tried(rt: &impl Print, tried: &Tried) -> io::Result<()> {
+    let outcomes = &tried.outcomes;
+    print!(rt; "{}", tried.differences)?;
     outcomes.print_refused(rt)?;
     println!(rt; "not refused: {}", outcomes.accepted())?;
     println!(rt;
@@ -53,18 +55,8 @@ fn print_counts(rt: &impl Print, outcomes: &Outcomes) -> io::Result<()> {
 
 // Tries all files.
 pub fn try_files(rt: &HostRuntime) -> anyhow::Result<()> {
-    let mut outcomes = Outcomes::new(&REFUSALS);
-    try_cases(rt, "whole", &whole::WHOLE, &mut outcomes)?;
-    try_fields(rt, &mut outcomes)?;
-    try_ends(rt, &mut outcomes)?;
-    try_cases(rt, "texts", &texts::TEXTS, &mut outcomes)?;
-    try_orders(rt, &mut outcomes)?;
-    try_end_orders(rt, &mut outcomes)?;
-    print_counts(rt, &outcomes)?;
-    ensure!(outcomes.is_complete(), "some refusal never came");
-    ensure!(
-        outcomes.differences() == 0,
-        "what was printed differs from what was expected"
-    );
-    Ok(())
+    let mut tried = Tried::new(rt.alloc(), &REFUSALS);
+    try_lists(&mut tried)?;
+    print_tried(rt, &tried)?;
+    tried.outcomes.ensure_right()
 }

@@ -3,7 +3,7 @@ use crate::explorer::always::{breaks_until, holds_always};
 use crate::explorer::graph::Graph;
 use crate::explorer::positions::PositionSet;
 use crate::explorer::until::holds_until;
-use crate::generator::text::{Form, Spelled};
+use crate::generator::text::{Form, Join, Leaf, Prefix, Spelled};
 use std::alloc::AllocError;
 
 // The positions from which no step leads to one without p.
@@ -26,25 +26,50 @@ fn every_until(graph: &Graph, p: &PositionSet, q: &PositionSet) -> Result<Positi
     graph.complement(&broken)
 }
 
+// The positions where a form without parts holds.
+fn work_leaf(graph: &Graph, leaf: Leaf) -> Result<PositionSet, AllocError> {
+    match leaf {
+        Leaf::Yes => graph.everywhere().clone(),
+        Leaf::Mark(k) => graph.marked(k),
+        Leaf::Condition(k) => graph.while_on(k),
+    }
+}
+
+// The positions where a form of one part holds, from those of the part.
+fn work_one(graph: &Graph, prefix: Prefix, p: &PositionSet) -> Result<PositionSet, AllocError> {
+    match prefix {
+        Prefix::Not => graph.complement(p),
+        Prefix::SomeNext => graph.before(p),
+        Prefix::SomeFuture => holds_until(graph, graph.everywhere(), p),
+        Prefix::SomeAlways => holds_always(graph, p),
+        Prefix::EveryNext => every_next(graph, p),
+        Prefix::EveryFuture => every_until(graph, graph.everywhere(), p),
+        Prefix::EveryAlways => every_always(graph, p),
+    }
+}
+
+// The positions where a form of two parts holds, from those of the parts.
+fn work_two(
+    graph: &Graph,
+    join: Join,
+    p: &PositionSet,
+    q: &PositionSet,
+) -> Result<PositionSet, AllocError> {
+    match join {
+        Join::And => graph.both(p, q),
+        Join::Or => graph.either(p, q),
+        Join::SomeUntil => holds_until(graph, p, q),
+        Join::EveryUntil => every_until(graph, p, q),
+    }
+}
+
 // The positions where a form holds, from those of the earlier forms.
 fn work_form(graph: &Graph, done: &[PositionSet], form: Form) -> Result<PositionSet, AllocError> {
     let part = |number: usize| done.get(number).unwrap_or(graph.nowhere());
-    let all = graph.everywhere();
     match form {
-        Form::Yes => all.clone(),
-        Form::Mark(k) => graph.marked(k),
-        Form::Condition(k) => graph.while_on(k),
-        Form::Not(p) => graph.complement(part(p)),
-        Form::And(p, q) => graph.both(part(p), part(q)),
-        Form::Or(p, q) => graph.either(part(p), part(q)),
-        Form::SomeNext(p) => graph.before(part(p)),
-        Form::SomeFuture(q) => holds_until(graph, all, part(q)),
-        Form::SomeAlways(p) => holds_always(graph, part(p)),
-        Form::SomeUntil(p, q) => holds_until(graph, part(p), part(q)),
-        Form::EveryNext(p) => every_next(graph, part(p)),
-        Form::EveryFuture(q) => every_until(graph, all, part(q)),
-        Form::EveryAlways(p) => every_always(graph, part(p)),
-        Form::EveryUntil(p, q) => every_until(graph, part(p), part(q)),
+        Form::Leaf(leaf) => work_leaf(graph, leaf),
+        Form::One(prefix, p) => work_one(graph, prefix, part(p)),
+        Form::Two(join, p, q) => work_two(graph, join, part(p), part(q)),
     }
 }
 

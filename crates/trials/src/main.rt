@@ -11,14 +11,15 @@ mod file_cases;
 mod forms;
 mod generator;
 mod kinds;
-mod latin1;
 mod outcomes;
 mod routes;
 mod space;
+mod spelling;
 mod tally;
 mod text_cases;
 mod texts;
 mod trial;
+mod tried;
 
 use anyhow::ensure;
 use conditions::plain::Plain;

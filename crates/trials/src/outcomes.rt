@@ -4,6 +4,7 @@ ghost use Rattle.std.specs.List.{list_all};
 ghost use Rattle.trials.specs.Counts.{add_up, counted, refused_by};
 
 use crate::counts::Counts;
+use anyhow::ensure;
 use std::io;
 
 // How many cases were refused, by the number of the refusal, how many were not, and how many differed from what was
@@ -91,5 +92,15 @@ impl<'a> Outcomes<'a> {
             .iter()
             .all(|number| self.refused.get(usize::from(*number)) > 0)
             && self.accepted > 0
+    }
+
+    // An error where some refusal never came, or something differed.
+    pub fn ensure_right(&self) -> anyhow::Result<()> {
+        ensure!(self.is_complete(), "some refusal never came");
+        ensure!(
+            self.differences == 0,
+            "what came differs from what was expected"
+        );
+        Ok(())
     }
 }

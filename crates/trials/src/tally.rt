@@ -2,7 +2,7 @@
 use crate::counts::Counts;
 use std::io;
 
-// What is counted.
+// What is counted, in the order of the summary: what has to be tried, and then what may not come.
 #[derive(Clone, Copy)]
 pub enum Seen {
     PlainNetworks,
@@ -66,81 +66,74 @@ pub enum Seen {
     Refusals,
 }
 
-// What has to be tried, in the order of the summary.
-const TRIED: &[(Seen, &str)] = &[
-    (Seen::PlainNetworks, "networks of plain sets"),
-    (Seen::WordNetworks, "networks of word sets"),
-    (Seen::NoPlaces, "networks with no places"),
-    (Seen::NoEntries, "networks with places and no entries"),
-    (Seen::SelfLoops, "networks with self-loops"),
-    (Seen::ParallelBindings, "networks with parallel bindings"),
-    (Seen::EmptySets, "networks with empty sets"),
-    (Seen::RestingPlaces, "networks with places without steps"),
-    (
-        Seen::SometimesResting,
-        "networks with places that rest under some settings only",
-    ),
-    (Seen::Tables, "tables"),
-    (Seen::Rows, "rows"),
-    (Seen::YesRows, "rows: yes"),
-    (Seen::MarkRows, "rows: mark"),
-    (Seen::ConditionRows, "rows: condition"),
-    (Seen::NotRows, "rows: not"),
-    (Seen::AndRows, "rows: and"),
-    (Seen::OrRows, "rows: or"),
-    (Seen::NextRows, "rows: next"),
-    (Seen::UntilRows, "rows: until"),
-    (Seen::AlwaysRows, "rows: always"),
-    (Seen::MixedRows, "rows true somewhere and false somewhere"),
-    (Seen::LongUntilRows, "rows: until, of two and more rounds"),
-    (Seen::LongAlwaysRows, "rows: always, of two and more rounds"),
-    (Seen::LongestRows, "rows of five and more rounds"),
-    (Seen::Positions, "positions"),
-    (Seen::TruePositions, "positions where the row is true"),
-    (Seen::FalsePositions, "positions where the row is false"),
-    (
-        Seen::Hops,
-        "positions with hops to the second operand of until",
-    ),
-    (Seen::Unreachable, "positions with none"),
-    (Seen::Holds, "verdicts that hold"),
-    (Seen::Breaks, "verdicts that break"),
-    (Seen::NextRoutes, "routes: next"),
-    (Seen::UntilRoutes, "routes: until"),
-    (Seen::AlwaysRoutes, "routes: always"),
-    (Seen::Reaching, "routes that reach"),
-    (Seen::Resting, "routes that rest"),
-    (Seen::Returning, "routes that return"),
-    (Seen::ShortRoutes, "routes of one position"),
-    (Seen::LongRoutes, "routes of three and more positions"),
-    (Seen::RowFails, "routes refused with 26"),
-    (Seen::Texts, "texts"),
-    (Seen::TextNext, "texts: AX"),
-    (Seen::TextFuture, "texts: AF"),
-    (Seen::TextAlways, "texts: AG"),
-    (Seen::TextUntil, "texts: A until"),
-    (Seen::LargeTexts, "texts refused for their rows or bytes"),
-    (Seen::TextTrue, "positions where a text is true"),
-    (Seen::TextFalse, "positions where a text is false"),
-];
-
-// What may not come, in the order of the summary.
-const WRONG: &[(Seen, &str)] = &[
-    (Seen::WrongPositions, "positions that differ"),
-    (Seen::WrongRounds, "rounds that differ"),
-    (Seen::WrongVerdicts, "verdicts that differ"),
-    (Seen::WrongHops, "hops that differ"),
-    (Seen::WrongRest, "lists written beyond the table"),
-    (Seen::WrongRoutes, "routes that differ"),
-    (Seen::WrongAnswers, "routes shown or refused that differ"),
-    (Seen::WrongSteps, "steps written beyond the route"),
-    (Seen::WrongTexts, "positions of texts that differ"),
-    (Seen::WrongReadings, "texts read or refused that differ"),
-    (Seen::Refusals, "refusals"),
-];
-
 // How many kinds of things are counted.
 const KINDS: usize = Seen::Refusals as usize + 1;
+
+// How many of them have to be tried.
+const TRIED: usize = Seen::WrongPositions as usize;
+
+// The name of each, in the same order.
+static NAMES: [&str; KINDS] = [
+    "networks of plain sets",
+    "networks of word sets",
+    "networks with no places",
+    "networks with places and no entries",
+    "networks with self-loops",
+    "networks with parallel bindings",
+    "networks with empty sets",
+    "networks with places without steps",
+    "networks with places that rest under some settings only",
+    "tables",
+    "rows",
+    "rows: yes",
+    "rows: mark",
+    "rows: condition",
+    "rows: not",
+    "rows: and",
+    "rows: or",
+    "rows: next",
+    "rows: until",
+    "rows: always",
+    "rows true somewhere and false somewhere",
+    "rows: until, of two and more rounds",
+    "rows: always, of two and more rounds",
+    "rows of five and more rounds",
+    "positions",
+    "positions where the row is true",
+    "positions where the row is false",
+    "positions with hops to the second operand of until",
+    "positions with none",
+    "verdicts that hold",
+    "verdicts that break",
+    "routes: next",
+    "routes: until",
+    "routes: always",
+    "routes that reach",
+    "routes that rest",
+    "routes that return",
+    "routes of one position",
+    "routes of three and more positions",
+    "routes refused with 26",
+    "texts",
+    "texts: AX",
+    "texts: AF",
+    "texts: AG",
+    "texts: A until",
+    "texts refused for their rows or bytes",
+    "positions where a text is true",
+    "positions where a text is false",
+    "positions that differ",
+    "rounds that differ",
+    "verdicts that differ",
+    "hops that differ",
+    "lists written beyond the table",
+    "routes that differ",
+    "routes shown or refused that differ",
+    "steps written beyond the route",
+    "positions of texts that differ",
+    "texts read or refused that differ",
+    "refusals",
+];
 
 #[derive(Clone, Copy)]
 pub struct Tally {
@@ -164,14 +157,10 @@ impl Tally {
         self.add(what, usize::from(is_so));
     }
 
-    fn count(&self, what: Seen) -> usize {
-        self.counts.get(what as usize)
-    }
-
     // Prints a line for each count.
     pub fn print(&self, rt: &impl Print) -> io::Result<()> {
-        for (what, name) in TRIED.iter().chain(WRONG) {
-            let count = self.count(*what);
+        for (number, name) in NAMES.iter().enumerate() {
+            let count = self.counts.get(number);
             println!(rt; "{name}: {count}")?;
         }
         Ok(())
@@ -179,11 +168,11 @@ impl Tally {
 
     // Whether something that was to be tried was not.
     pub fn untried(&self) -> bool {
-        TRIED.iter().any(|(what, _)| self.count(*what) == 0)
+        (0..TRIED).any(|number| self.counts.get(number) == 0)
     }
 
     // Whether anything differed.
     pub fn differs(&self) -> bool {
-        WRONG.iter().any(|(what, _)| self.count(*what) != 0)
+        (TRIED..KINDS).any(|number| self.counts.get(number) != 0)
     }
 }

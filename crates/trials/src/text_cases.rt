@@ -1,61 +1,60 @@
 // Reads texts, valid and damaged, whose tables and refusals are worked out by hand, and compares.
 // Prints what was read; it is an error where anything differs, or where some refusal never came.
 
-mod case;
 mod cases;
 mod trial;
 
-use crate::outcomes::Outcomes;
 use crate::text_cases::cases::{built, damaged, plain, valid};
-use crate::text_cases::trial::{try_built, try_cases};
-use anyhow::ensure;
+use crate::text_cases::trial::try_list;
+use crate::tried::Tried;
 use conditions::plain::Plain;
 use conditions::word::Word;
+use std::alloc::AllocError;
 use std::io;
 
 // The numbers of the refusals.
 const REFUSALS: [u8; 6] = [1, 2, 3, 4, 5, 9];
 
-fn try_valid(rt: &HostRuntime, outcomes: &mut Outcomes) -> anyhow::Result<()> {
-    try_cases::<Word>(rt, &valid::FORMS, outcomes)?;
-    try_cases::<Word>(rt, &valid::BINDING, outcomes)?;
-    try_cases::<Word>(rt, &valid::SPACING, outcomes)?;
-    try_cases::<Word>(rt, &valid::NESTED, outcomes)
+// The texts for word sets.
+static WORD_LISTS: [&str; 11] = [
+    valid::FORMS,
+    valid::BINDING,
+    valid::SPACING,
+    valid::NESTED,
+    damaged::UNKNOWN,
+    damaged::UNFIT,
+    damaged::OUT_OF_RANGE,
+    damaged::TWO_FAULTS,
+    built::LEVELS,
+    built::ROWS,
+    built::BYTES,
+];
+
+// Reads all texts.
+fn try_lists(tried: &mut Tried) -> Result<(), AllocError> {
+    for list in &WORD_LISTS {
+        try_list::<Word>(list, tried)?;
+    }
+    try_list::<Plain>(plain::PLAIN, tried)
 }
 
-fn try_damaged(rt: &HostRuntime, outcomes: &mut Outcomes) -> anyhow::Result<()> {
-    try_cases::<Word>(rt, &damaged::UNKNOWN, outcomes)?;
-    try_cases::<Word>(rt, &damaged::UNFIT, outcomes)?;
-    try_cases::<Word>(rt, &damaged::OUT_OF_RANGE, outcomes)?;
-    try_cases::<Word>(rt, &damaged::TWO_FAULTS, outcomes)
-}
-
-fn try_limits(rt: &HostRuntime, outcomes: &mut Outcomes) -> anyhow::Result<()> {
-    try_built::<Word>(rt, &built::LEVELS, outcomes)?;
-    try_built::<Word>(rt, &built::ROWS, outcomes)?;
-    try_built::<Word>(rt, &built::BYTES, outcomes)
-}
-
-// Prints a line for each count.
-fn print_counts(rt: &impl Print, outcomes: &Outcomes) -> io::Result<()> {
-    println!(rt; "texts: {}", outcomes.total())?;
-    println!(rt; "valid: {}", outcomes.accepted())?;
+// Prints the differences, and a line for each count.
+fn print_tried(rt: &impl Print, tried: &Tried) -> io::Result<()> {
+    let outcomes = &tried.outcomes;
+    print!(rt; "{}", tried.differences)?;
+    println!(rt;
+        "texts: {}\nvalid: {}",
+        outcomes.total(),
+        outcomes.accepted()
+    )?;
     outcomes.print_refused(rt)?;
     println!(rt; "differences: {}", outcomes.differences())
 }
 
 // Tries all texts.
 pub fn try_texts(rt: &HostRuntime) -> anyhow::Result<()> {
-    let mut outcomes = Outcomes::new(&REFUSALS);
-    try_valid(rt, &mut outcomes)?;
-    try_damaged(rt, &mut outcomes)?;
-    try_limits(rt, &mut outcomes)?;
-    try_cases::<Plain>(rt, &plain::PLAIN, &mut outcomes)?;
-    print_counts(rt, &outcomes)?;
-    ensure!(outcomes.is_complete(), "some refusal never came");
-    ensure!(
-        outcomes.differences() == 0,
-        "what was read differs from what was expected"
-    );
-    Ok(())
+    let mut tried = Tried::new(rt.alloc(), &REFUSALS);
+    try_lists(&mut tried)?;
+    print_tried(rt, &tried)?;
+    tried.outcomes.ensure_right()
 }

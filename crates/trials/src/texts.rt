@@ -3,7 +3,7 @@ use crate::comparison::count_wrong;
 use crate::explorer::graph::Graph;
 use crate::explorer::positions::PositionSet;
 use crate::forms::work_forms;
-use crate::generator::text::{Form, Spelled};
+use crate::generator::text::{Form, Join, Prefix, Spelled};
 use crate::space::Space;
 use crate::tally::{Seen, Tally};
 use judging::judge::judge;
@@ -32,10 +32,10 @@ fn size_fault(rule: &Spelled) -> Option<FaultKind> {
 fn count_form(form: Form, tally: &mut Tally) {
     tally.add(Seen::Texts, 1);
     let kind = match form {
-        Form::EveryNext(_) => Seen::TextNext,
-        Form::EveryFuture(_) => Seen::TextFuture,
-        Form::EveryAlways(_) => Seen::TextAlways,
-        Form::EveryUntil(_, _) => Seen::TextUntil,
+        Form::One(Prefix::EveryNext, _) => Seen::TextNext,
+        Form::One(Prefix::EveryFuture, _) => Seen::TextFuture,
+        Form::One(Prefix::EveryAlways, _) => Seen::TextAlways,
+        Form::Two(Join::EveryUntil, _, _) => Seen::TextUntil,
         _ => return,
     };
     tally.add(kind, 1);
@@ -50,37 +50,37 @@ fn compare_rows<N: Network>(
     tally: &mut Tally,
 ) -> Result<(), AllocError> {
     let mut space = Space::new(graph.heap(), MAIN)?;
-    match judge(net, rows, &mut space.main, &mut space.spare) {
-        Ok(_) => {
-            let wrong = count_wrong(graph, held, &space.main, rows.len().saturating_sub(1));
-            tally.add(Seen::WrongTexts, wrong);
-        }
-        Err(_) => tally.add(Seen::Refusals, 1),
+    if judge(net, rows, &mut space.main, &mut space.spare).is_ok() {
+        let wrong = count_wrong(graph, held, &space.main, rows.len().saturating_sub(1));
+        tally.add(Seen::WrongTexts, wrong);
+    } else {
+        tally.add(Seen::Refusals, 1);
     }
-    let count = held.count();
-    tally.add(Seen::TextTrue, count);
-    tally.add(Seen::TextFalse, graph.size().saturating_sub(count));
     Ok(())
 }
 
+// Counts the positions where a text is true, and those where it is false.
+fn count_positions(graph: &Graph, held: &PositionSet, tally: &mut Tally) {
+    let count = held.count();
+    tally.add(Seen::TextTrue, count);
+    tally.add(Seen::TextFalse, graph.size().saturating_sub(count));
+}
+
 // Reads the text of a rule and judges the network by it.
-pub fn try_text<N: Network>(
+fn compare_text<N: Network>(
     net: &N,
     graph: &Graph,
-    forms: &[Spelled],
+    rule: &Spelled,
+    held: &PositionSet,
     tally: &mut Tally,
 ) -> Result<(), AllocError> {
-    let done = work_forms(graph, forms)?;
-    let Some((rule, held)) = forms.iter().zip(&done).last() else {
-        return Ok(());
-    };
-    count_form(rule.form, tally);
     let expected = size_fault(rule);
     match read_rule::<N::Set>(rule.text.as_bytes()) {
         Ok(table) => {
             let rows = table.rows();
             let fits = expected.is_none() && rows.len() == rule.rows;
             tally.add_if(Seen::WrongReadings, !fits);
+            count_positions(graph, held, tally);
             compare_rows(net, graph, rows, held, tally)
         }
         Err(fault) => {
@@ -89,4 +89,19 @@ pub fn try_text<N: Network>(
             Ok(())
         }
     }
+}
+
+// Tries the text of a rule, which is its last form.
+pub fn try_text<N: Network>(
+    net: &N,
+    graph: &Graph,
+    forms: &[Spelled],
+    tally: &mut Tally,
+) -> Result<(), AllocError> {
+    let done = work_forms(graph, forms)?;
+    if let (Some(rule), Some(held)) = (forms.last(), done.last()) {
+        count_form(rule.form, tally);
+        compare_text(net, graph, rule, held, tally)?;
+    }
+    Ok(())
 }

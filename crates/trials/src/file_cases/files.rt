@@ -2,34 +2,16 @@
 use std::alloc::{AllocError, Global};
 
 // Bytes that stand so many times behind one another.
-pub struct Part(pub usize, pub &'static [u8]);
+struct Part(usize, &'static [u8]);
 
-#[derive(Clone, Copy)]
-pub enum Whole {
-    // Nothing at all: 24 bytes.
-    Empty,
-    // One rule and no place: 29 bytes.
-    NoPlace,
-    // One binding and no place: 36 bytes.
-    OneBinding,
-    // Two places, one binding, two rules: 64 bytes.
-    Trial,
-    // Three places in a ring, three bindings, two rules: 90 bytes.
-    Ring,
-    // One place and eight rules of two bytes: 60 bytes.
-    Eight,
-    // One place, and rules of 32 levels and of 32 rows: 115 bytes.
-    Limits,
-    // The longest file: 51,816 bytes.
-    Longest,
-}
-
+// Nothing at all: 24 bytes.
 static EMPTY: [Part; 3] = [
     Part(1, b"\x01\0\0\0\x18\0\0\0"), // 0: no places from byte 24
     Part(1, b"\x02\0\0\0\x18\0\0\0"), // 8: no bindings from byte 24
     Part(1, b"\x03\0\0\0\x18\0\0\0"), // 16: no rules from byte 24
 ];
 
+// One rule and no place: 29 bytes.
 static NO_PLACE: [Part; 4] = [
     Part(1, b"\x01\0\0\0\x18\0\0\0"), // 0: no places from byte 24
     Part(1, b"\x02\0\0\0\x18\0\0\0"), // 8: no bindings from byte 24
@@ -37,6 +19,7 @@ static NO_PLACE: [Part; 4] = [
     Part(1, b"\x03\0yes"), // 24: rule 0
 ];
 
+// One binding and no place: 36 bytes.
 static ONE_BINDING: [Part; 4] = [
     Part(1, b"\x01\0\0\0\x18\0\0\0"), // 0: no places from byte 24
     Part(1, b"\x02\0\x01\0\x18\0\0\0"), // 8: one binding from byte 24
@@ -44,6 +27,7 @@ static ONE_BINDING: [Part; 4] = [
     Part(12, b"\0"), // 24: 0 to 0 never
 ];
 
+// Two places, one binding, two rules: 64 bytes.
 static TRIAL: [Part; 8] = [
     Part(1, b"\x01\0\x02\0\x18\0\0\0"), // 0: two places from byte 24
     Part(1, b"\x02\0\x01\0\x20\0\0\0"), // 8: one binding from byte 32
@@ -55,6 +39,7 @@ static TRIAL: [Part; 8] = [
     Part(1, b"\x0B\0EF m1 | !c0"), // 51: rule 1
 ];
 
+// Three places in a ring, three bindings, two rules: 90 bytes.
 static RING: [Part; 11] = [
     Part(1, b"\x01\0\x03\0\x18\0\0\0"), // 0: three places from byte 24
     Part(1, b"\x02\0\x03\0\x24\0\0\0"), // 8: three bindings from byte 36
@@ -69,6 +54,7 @@ static RING: [Part; 11] = [
     Part(1, b"\x06\0AX !m1"), // 82: rule 1
 ];
 
+// One place and eight rules of two bytes: 60 bytes.
 static EIGHT: [Part; 5] = [
     Part(1, b"\x01\0\x01\0\x18\0\0\0"), // 0: one place from byte 24
     Part(1, b"\x02\0\0\0\x1C\0\0\0"), // 8: no bindings from byte 28
@@ -77,6 +63,7 @@ static EIGHT: [Part; 5] = [
     Part(8, b"\x02\0m0"), // 28, 32, .. 56: rules 0 to 7
 ];
 
+// One place, and rules of 32 levels and of 32 rows: 115 bytes.
 static LIMITS: [Part; 10] = [
     Part(1, b"\x01\0\x01\0\x18\0\0\0"), // 0: one place from byte 24
     Part(1, b"\x02\0\0\0\x1C\0\0\0"), // 8: no bindings from byte 28
@@ -90,17 +77,30 @@ static LIMITS: [Part; 10] = [
     Part(15, b"|m0"),
 ];
 
-// The contents of the longest file: 256 places, 4,096 bindings and eight rules.
-static LONGEST: [Part; 5] = [
+// The longest file: 51,816 bytes.
+static LONGEST: [Part; 21] = [
     Part(1, b"\x01\0\0\x01\x18\0\0\0"), // 0: 256 places from byte 24
     Part(1, b"\x02\0\0\x10\x18\x04\0\0"), // 8: 4,096 bindings from byte 1,048
     Part(1, b"\x03\0\x08\0\x18\xC4\0\0"), // 16: eight rules from byte 50,200
     Part(256, b"\x01\0\0\0"), // 24: places, mark 0
     Part(4096, b"\xFF\0\0\0\0\0\0\0\0\0\0\x80"), // 1,048: 255 to 0 under setting 63
+    Part(1, b"\xC8\0yes"), // 50,200: rule 0
+    Part(197, b" "),
+    Part(1, b"\xC8\0yes"), // 50,402: rule 1
+    Part(197, b" "),
+    Part(1, b"\xC8\0yes"), // 50,604: rule 2
+    Part(197, b" "),
+    Part(1, b"\xC8\0yes"), // 50,806: rule 3
+    Part(197, b" "),
+    Part(1, b"\xC8\0yes"), // 51,008: rule 4
+    Part(197, b" "),
+    Part(1, b"\xC8\0yes"), // 51,210: rule 5
+    Part(197, b" "),
+    Part(1, b"\xC8\0yes"), // 51,412: rule 6
+    Part(197, b" "),
+    Part(1, b"\xC8\0yes"), // 51,614: rule 7
+    Part(197, b" "),
 ];
-
-// A rule of 200 bytes.
-static LONG_RULE: [Part; 2] = [Part(1, b"\xC8\0yes"), Part(197, b" ")];
 
 fn push_repeated(file: &mut Vec<u8>, times: usize, bytes: &[u8]) -> Result<(), AllocError> {
     for _ in 0..times {
@@ -116,26 +116,24 @@ fn push_parts(file: &mut Vec<u8>, parts: &[Part]) -> Result<(), AllocError> {
     Ok(())
 }
 
-fn push_longest(file: &mut Vec<u8>) -> Result<(), AllocError> {
-    push_parts(file, &LONGEST)?;
-    for _ in 0..8 {
-        push_parts(file, &LONG_RULE)?;
+// The parts of the file with a name; none where no file has it.
+fn parts_of(name: &str) -> &'static [Part] {
+    match name {
+        "Empty" => &EMPTY,
+        "NoPlace" => &NO_PLACE,
+        "OneBinding" => &ONE_BINDING,
+        "Trial" => &TRIAL,
+        "Ring" => &RING,
+        "Eight" => &EIGHT,
+        "Limits" => &LIMITS,
+        "Longest" => &LONGEST,
+        _ => &[],
     }
-    Ok(())
 }
 
-// The bytes of a file.
-pub fn file_bytes(heap: Global, whole: Whole) -> Result<Vec<u8>, AllocError> {
+// The bytes of the file with a name.
+pub fn file_bytes(heap: Global, name: &str) -> Result<Vec<u8>, AllocError> {
     let mut file = Vec::new(heap);
-    match whole {
-        Whole::Empty => push_parts(&mut file, &EMPTY)?,
-        Whole::NoPlace => push_parts(&mut file, &NO_PLACE)?,
-        Whole::OneBinding => push_parts(&mut file, &ONE_BINDING)?,
-        Whole::Trial => push_parts(&mut file, &TRIAL)?,
-        Whole::Ring => push_parts(&mut file, &RING)?,
-        Whole::Eight => push_parts(&mut file, &EIGHT)?,
-        Whole::Limits => push_parts(&mut file, &LIMITS)?,
-        Whole::Longest => push_longest(&mut file)?,
-    }
+    push_parts(&mut file, parts_of(name))?;
     Ok(file)
 }

@@ -4,25 +4,44 @@ use crate::generator::table::{draw_condition, draw_mark};
 use std::alloc::{AllocError, Global};
 use std::fmt::Write;
 
-// A form of a rule; its parts are numbers of earlier forms.
+// A form without parts.
 #[derive(Clone, Copy)]
-pub enum Form {
+pub enum Leaf {
     Yes,
     Mark(u8),
     Condition(u8),
-    Not(usize),
-    And(usize, usize),
-    Or(usize, usize),
-    // EX, EF, EG and E[p U q].
-    SomeNext(usize),
-    SomeFuture(usize),
-    SomeAlways(usize),
-    SomeUntil(usize, usize),
-    // AX, AF, AG and A[p U q].
-    EveryNext(usize),
-    EveryFuture(usize),
-    EveryAlways(usize),
-    EveryUntil(usize, usize),
+}
+
+// What stands before the part of a form that has one.
+#[derive(Clone, Copy)]
+pub enum Prefix {
+    Not,
+    // EX, EF and EG.
+    SomeNext,
+    SomeFuture,
+    SomeAlways,
+    // AX, AF and AG.
+    EveryNext,
+    EveryFuture,
+    EveryAlways,
+}
+
+// What joins the parts of a form that has two.
+#[derive(Clone, Copy)]
+pub enum Join {
+    And,
+    Or,
+    // E[p U q] and A[p U q].
+    SomeUntil,
+    EveryUntil,
+}
+
+// A form of a rule; its parts are numbers of earlier forms.
+#[derive(Clone, Copy)]
+pub enum Form {
+    Leaf(Leaf),
+    One(Prefix, usize),
+    Two(Join, usize, usize),
 }
 
 // How close a form binds: `|`, then `&`, then all others.
@@ -43,10 +62,23 @@ pub struct Spelled {
 
 const MOST_FORMS: usize = 6;
 
+// The word of a prefix.
+fn word_of(prefix: Prefix) -> &'static str {
+    match prefix {
+        Prefix::Not => "!",
+        Prefix::SomeNext => "EX ",
+        Prefix::SomeFuture => "EF ",
+        Prefix::SomeAlways => "EG ",
+        Prefix::EveryNext => "AX ",
+        Prefix::EveryFuture => "AF ",
+        Prefix::EveryAlways => "AG ",
+    }
+}
+
 fn strength_of(form: Form) -> Strength {
     match form {
-        Form::Or(_, _) => Strength::Choice,
-        Form::And(_, _) => Strength::Both,
+        Form::Two(Join::Or, _, _) => Strength::Choice,
+        Form::Two(Join::And, _, _) => Strength::Both,
         _ => Strength::One,
     }
 }
@@ -88,9 +120,16 @@ impl<'a> Speller<'a> {
         self.push_sign(")")
     }
 
-    // A word that takes one part.
-    fn push_prefix(&mut self, word: &str, p: usize) -> Result<(), AllocError> {
-        self.text.push_str(word)?;
+    fn push_leaf(&mut self, leaf: Leaf) -> Result<(), AllocError> {
+        match leaf {
+            Leaf::Yes => self.text.push_str("yes"),
+            Leaf::Mark(k) => write!(self.text, "m{k}"),
+            Leaf::Condition(k) => write!(self.text, "c{k}"),
+        }
+    }
+
+    fn push_one(&mut self, prefix: Prefix, p: usize) -> Result<(), AllocError> {
+        self.text.push_str(word_of(prefix))?;
         self.push_part(p, Strength::One)
     }
 
@@ -117,22 +156,20 @@ impl<'a> Speller<'a> {
         self.push_sign("]")
     }
 
+    fn push_two(&mut self, join: Join, p: usize, q: usize) -> Result<(), AllocError> {
+        match join {
+            Join::And => self.push_between(p, Strength::Both, "&", q, Strength::One),
+            Join::Or => self.push_between(p, Strength::Choice, "|", q, Strength::Both),
+            Join::SomeUntil => self.push_until("E", p, q),
+            Join::EveryUntil => self.push_until("A", p, q),
+        }
+    }
+
     fn push_form(&mut self, form: Form) -> Result<(), AllocError> {
         match form {
-            Form::Yes => self.text.push_str("yes"),
-            Form::Mark(k) => write!(self.text, "m{k}"),
-            Form::Condition(k) => write!(self.text, "c{k}"),
-            Form::Not(p) => self.push_prefix("!", p),
-            Form::And(p, q) => self.push_between(p, Strength::Both, "&", q, Strength::One),
-            Form::Or(p, q) => self.push_between(p, Strength::Choice, "|", q, Strength::Both),
-            Form::SomeNext(p) => self.push_prefix("EX ", p),
-            Form::SomeFuture(p) => self.push_prefix("EF ", p),
-            Form::SomeAlways(p) => self.push_prefix("EG ", p),
-            Form::SomeUntil(p, q) => self.push_until("E", p, q),
-            Form::EveryNext(p) => self.push_prefix("AX ", p),
-            Form::EveryFuture(p) => self.push_prefix("AF ", p),
-            Form::EveryAlways(p) => self.push_prefix("AG ", p),
-            Form::EveryUntil(p, q) => self.push_until("A", p, q),
+            Form::Leaf(leaf) => self.push_leaf(leaf),
+            Form::One(prefix, p) => self.push_one(prefix, p),
+            Form::Two(join, p, q) => self.push_two(join, p, q),
         }
     }
 }
@@ -153,21 +190,26 @@ fn spell(
     Ok(speller.text)
 }
 
+// How many rows a form has of its own.
+fn own_rows(form: Form) -> usize {
+    match form {
+        Form::One(Prefix::SomeFuture, _) => 2,
+        Form::One(Prefix::EveryNext | Prefix::EveryFuture, _) => 3,
+        Form::One(Prefix::EveryAlways, _) => 4,
+        Form::Two(Join::EveryUntil, _, _) => 7,
+        _ => 1,
+    }
+}
+
 // How many rows the table of a form has: its own and those of its parts.
 fn count_rows(forms: &[Spelled], form: Form) -> usize {
     let rows = |number: usize| forms.get(number).map_or(0, |part| part.rows);
-    let (own, parts) = match form {
-        Form::Yes | Form::Mark(_) | Form::Condition(_) => (1, 0),
-        Form::Not(p) | Form::SomeNext(p) | Form::SomeAlways(p) => (1, rows(p)),
-        Form::SomeFuture(p) => (2, rows(p)),
-        Form::EveryNext(p) | Form::EveryFuture(p) => (3, rows(p)),
-        Form::EveryAlways(p) => (4, rows(p)),
-        Form::And(p, q) | Form::Or(p, q) | Form::SomeUntil(p, q) => {
-            (1, rows(p).saturating_add(rows(q)))
-        }
-        Form::EveryUntil(p, q) => (7, rows(p).saturating_add(rows(q))),
+    let parts = match form {
+        Form::Leaf(_) => 0,
+        Form::One(_, p) => rows(p),
+        Form::Two(_, p, q) => rows(p).saturating_add(rows(q)),
     };
-    parts.saturating_add(own)
+    parts.saturating_add(own_rows(form))
 }
 
 // The number of a form before form `at`: the last of them, or any.
@@ -179,36 +221,36 @@ fn draw_part(random: &mut Random, at: usize) -> usize {
     }
 }
 
-fn draw_leaf(random: &mut Random, conditions: u32) -> Form {
+fn draw_leaf(random: &mut Random, conditions: u32) -> Leaf {
     if random.one_in(8) {
-        Form::Yes
+        Leaf::Yes
     } else if conditions > 0 && random.one_in(3) {
-        Form::Condition(draw_condition(random, conditions))
+        Leaf::Condition(draw_condition(random, conditions))
     } else {
-        Form::Mark(draw_mark(random))
+        Leaf::Mark(draw_mark(random))
     }
 }
 
 // Form `at` of a rule.
 fn draw_form(random: &mut Random, at: usize, conditions: u32) -> Form {
     if at == 0 {
-        return draw_leaf(random, conditions);
+        return Form::Leaf(draw_leaf(random, conditions));
     }
     let p = draw_part(random, at);
     let q = draw_part(random, at);
     match random.below(16) {
-        0 | 1 => Form::Not(p),
-        2 => Form::And(p, q),
-        3 => Form::Or(p, q),
-        4 => Form::SomeNext(p),
-        5 => Form::SomeFuture(p),
-        6 => Form::SomeAlways(p),
-        7 => Form::SomeUntil(p, q),
-        8 => Form::EveryNext(p),
-        9 => Form::EveryFuture(p),
-        10 => Form::EveryAlways(p),
-        11 | 12 => Form::EveryUntil(p, q),
-        _ => draw_leaf(random, conditions),
+        0 | 1 => Form::One(Prefix::Not, p),
+        2 => Form::Two(Join::And, p, q),
+        3 => Form::Two(Join::Or, p, q),
+        4 => Form::One(Prefix::SomeNext, p),
+        5 => Form::One(Prefix::SomeFuture, p),
+        6 => Form::One(Prefix::SomeAlways, p),
+        7 => Form::Two(Join::SomeUntil, p, q),
+        8 => Form::One(Prefix::EveryNext, p),
+        9 => Form::One(Prefix::EveryFuture, p),
+        10 => Form::One(Prefix::EveryAlways, p),
+        11 | 12 => Form::Two(Join::EveryUntil, p, q),
+        _ => Form::Leaf(draw_leaf(random, conditions)),
     }
 }
 

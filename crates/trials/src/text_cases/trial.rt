@@ -1,10 +1,10 @@
 // Reads a text and compares what it gives with what it must give.
-use crate::outcomes::Outcomes;
-use crate::text_cases::case::{Built, Case};
+use crate::spelling::{END, halves, number};
+use crate::tried::Tried;
 use conditions::set::ConditionSet;
 use rule_text::read::read_rule;
 use std::alloc::{AllocError, Global};
-use std::{fmt, io};
+use std::fmt;
 use tables::row::Row;
 
 // The rows of a table, each as OPERATION.FIRST.SECOND.
@@ -26,64 +26,40 @@ impl fmt::Display for Rows<'_> {
     }
 }
 
+// The text that a case gives, or that is built of what it gives.
+fn text_of(heap: Global, spelled: &str) -> Result<String, AllocError> {
+    let (front, rest) = halves(spelled, ",");
+    let (times, rest) = halves(rest, ",");
+    let (part, back) = halves(rest, ",");
+    format!(in heap; "{front}{}{back}", part.repeat(heap, number(times))?)
+}
+
 // What reading the text gives, spelled; it is counted.
-fn outcome<S: ConditionSet>(
-    heap: Global,
-    text: &str,
-    outcomes: &mut Outcomes,
-) -> Result<String, AllocError> {
+fn read<S: ConditionSet>(text: &str, tried: &mut Tried) -> Result<String, AllocError> {
     match read_rule::<S>(text.as_bytes()) {
         Ok(table) => {
-            outcomes.add(None);
-            Rows(table.rows()).to_string(heap)
+            tried.outcomes.add(None);
+            Rows(table.rows()).to_string(tried.heap)
         }
         Err(fault) => {
-            outcomes.add(Some(fault.number()));
-            format!(in heap; "refused {} at byte {}", fault.number(), fault.byte)
+            tried.outcomes.add(Some(fault.number()));
+            format!(in tried.heap; "refused {} at byte {}", fault.number(), fault.byte)
         }
     }
 }
 
-fn print_difference(rt: &impl Print, text: &str, expected: &str, got: &str) -> io::Result<()> {
-    println!(rt; "text: {text}")?;
-    println!(rt; "  expected: {expected}")?;
-    println!(rt; "  got: {got}")
+// Reads the text of a case and compares.
+fn try_case<S: ConditionSet>(case: &str, tried: &mut Tried) -> Result<(), AllocError> {
+    let (spelled, _) = halves(case, ": ");
+    let text = text_of(tried.heap, spelled)?;
+    let got = read::<S>(&text, tried)?;
+    tried.compare(case, &got)
 }
 
-fn try_text<S: ConditionSet>(
-    rt: &HostRuntime,
-    text: &str,
-    expected: &str,
-    outcomes: &mut Outcomes,
-) -> anyhow::Result<()> {
-    let got = outcome::<S>(rt.alloc(), text, outcomes)?;
-    if got.as_str() != expected {
-        outcomes.add_difference();
-        print_difference(rt, text, expected, &got)?;
-    }
-    Ok(())
-}
-
-pub fn try_cases<S: ConditionSet>(
-    rt: &HostRuntime,
-    cases: &[Case],
-    outcomes: &mut Outcomes,
-) -> anyhow::Result<()> {
-    for Case(text, expected) in cases {
-        try_text::<S>(rt, text, expected, outcomes)?;
-    }
-    Ok(())
-}
-
-pub fn try_built<S: ConditionSet>(
-    rt: &HostRuntime,
-    cases: &[Built],
-    outcomes: &mut Outcomes,
-) -> anyhow::Result<()> {
-    let heap = rt.alloc();
-    for Built(front, times, part, back, expected) in cases {
-        let text = format!(in heap; "{front}{}{back}", part.repeat(heap, *times)?)?;
-        try_text::<S>(rt, &text, expected, outcomes)?;
+// Tries the cases of a list.
+pub fn try_list<S: ConditionSet>(list: &str, tried: &mut Tried) -> Result<(), AllocError> {
+    for case in list.split_terminator(END) {
+        try_case::<S>(case, tried)?;
     }
     Ok(())
 }

@@ -1,0 +1,14 @@
+// Parts of the cases, which are written as text.
+
+// What each case of a list ends with.
+pub const END: &str = ";\n";
+
+// What stands before a mark, and what behind it; all stands before it where it does not come.
+pub fn halves<'a>(text: &'a str, mark: &str) -> (&'a str, &'a str) {
+    text.split_once(mark).unwrap_or((text, ""))
+}
+
+// The number that is written, or 0.
+pub fn number(text: &str) -> usize {
+    text.parse().unwrap_or(0)
+}
