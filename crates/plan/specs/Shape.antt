@@ -73,12 +73,6 @@ counted_fault total file = first_fault
     ∷ end_fault total file
     ∷ ends_fault file 0 (binding_count file) ∷ [])
 
--- The first fault of a file of `total` bytes.
+-- The first fault of a file of `total` bytes: 7 where it is too short for its contents, else the first of the others.
 unfoldable pub shape_fault : ℕ → List ℕ → Option FileFault
-shape_fault total file = first_fault
-    (wrong_length (nat_lt total first_body) total
-    ∷ counts_fault file
-    ∷ contents_fault file
-    ∷ lengths_fault total file 0 (rule_count file)
-    ∷ end_fault total file
-    ∷ ends_fault file 0 (binding_count file) ∷ [])
+shape_fault total file = option_or (wrong_length (nat_lt total first_body) total) (counted_fault total file)

@@ -5,7 +5,7 @@ use Rattle.routing.specs.Net.{Net, Pos}
 use Rattle.routing.specs.Bindings.{net_of}
 use Rattle.samples.specs.declared.networks.TheConstants.{P_MARKS, P_BINDINGS, L_MARKS, L_BINDINGS}
 
--- What the site tables of the lists mean.
+-- What the site tables of the lists in src/networks.rt mean, of six conditions.
 abbrev pub P : Net
 P = net_of 6 word_holds P_MARKS P_BINDINGS
 
