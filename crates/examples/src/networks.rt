@@ -1,8 +1,7 @@
 // The trial networks: judges them by the library and prints what it found, a line for each rule, and below a rule that breaks
 // the route that shows it.
-use conditions::set::ConditionSet;
 use conditions::word::Word;
-use judging::route::route;
+use judging::breaking::show_breaking;
 use judging::shown::{Ending, RouteStep, Shown};
 use routing::binding::Binding;
 use routing::network::Network;
@@ -12,8 +11,8 @@ use samples::networks::{
     AF_M1, AG_EF_M1, EF_M1, EF_M1_OR_NOT_C0, L_BINDINGS, L_MARKS, P_BINDINGS, P_MARKS,
 };
 use std::io;
-use tables::row::{Operation, Row};
-use tables::table::{MOST_ROWS, read_row};
+use tables::row::Row;
+use tables::table::MOST_ROWS;
 use verdicts::entries::judge_entries;
 use verdicts::verdict::{Judgement, Verdict};
 
@@ -40,23 +39,6 @@ struct Found<'a> {
     route: Option<Route<'a>>,
 }
 
-// The operation of a row of a table.
-fn operation(table: &[Row], row: usize) -> Option<Operation> {
-    read_row(*table.get(row)?, row, Word::conditions())
-}
-
-// The row whose route breaks an A form: the rule is "not p", and p is about a step or a route.
-fn breaking_row(table: &[Row]) -> Option<usize> {
-    let Operation::Not(p) = operation(table, table.len().checked_sub(1)?)? else {
-        return None;
-    };
-    let row = usize::from(p);
-    match operation(table, row)? {
-        Operation::Next(_) | Operation::Until(_, _) | Operation::Always(_) => Some(row),
-        _ => None,
-    }
-}
-
 // A route that breaks a rule at an entry, written to `steps`.
 fn breaking_route<'a, N: Network<Set = Word>>(
     net: &N,
@@ -66,8 +48,9 @@ fn breaking_route<'a, N: Network<Set = Word>>(
     spare: &mut [Word],
     steps: &'a mut [RouteStep],
 ) -> Option<Route<'a>> {
-    let row = breaking_row(table)?;
-    let Shown { count, ending } = route(net, table, row, at, main, spare, steps).ok()?;
+    let Shown { count, ending } = show_breaking(net, table, at, main, spare, steps)
+        .ok()??
+        .shown;
     let steps = steps.get(..count)?;
     Some(Route { steps, ending })
 }

@@ -1,85 +1,15 @@
 // The report of a plan for people: below the line of each rule its text, its words, and the route that breaks it.
+use crate::breaking::add_breaking;
 use crate::text::Printable;
 use crate::words::Worded;
-use crate::work::{BreakingRoute, Work};
-use conditions::set::ConditionSet;
+use crate::work::Work;
 use conditions::word::Word;
-use judging::shown::{Ending, RouteStep};
+use judging::shown::RouteStep;
 use plan::file::PlanFile;
 use routing::network::Network;
 use std::alloc::{AllocError, Global};
-use std::fmt;
 use tables::row::Row;
 use verdicts::verdict::Verdict;
-
-// The conditions that are on under a setting.
-#[derive(Clone, Copy)]
-struct Setting(u32);
-
-impl fmt::Display for Setting {
-    fn fmt<W: fmt::Write>(&self, f: &mut fmt::Formatter<W>) -> fmt::Result {
-        if self.0 == 0 {
-            return f.write_str("no condition on");
-        }
-        for k in 0..Word::conditions() {
-            if self.0 >> k & 1 == 1 {
-                write!(f, "c{k} ")?;
-            }
-        }
-        f.write_str("on")
-    }
-}
-
-// Adds how a route ends. A single step may lead back to where it began.
-fn add_ending(out: &mut String, route: BreakingRoute<'_>) -> Result<(), AllocError> {
-    match route.ending {
-        Ending::Reaches => out.push_str("  and reaches a position that the rule forbids.\n"),
-        Ending::Rests => out.push_str("  and rests there: no step leads on.\n"),
-        Ending::Returns(number) if route.is_of_step => writeln!(
-            out,
-            "  and steps back to position {number}, a position that the rule forbids."
-        ),
-        Ending::Returns(number) => writeln!(
-            out,
-            "  and goes round for ever from position {number}."
-        ),
-    }
-}
-
-// Adds a position of a route by its number.
-fn add_step(out: &mut String, number: usize, step: RouteStep) -> Result<(), AllocError> {
-    let RouteStep { place, setting } = step;
-    writeln!(out, "    {number}: place {place}, {}", Setting(setting))
-}
-
-// Adds the positions of a route, and how it ends.
-fn add_route(out: &mut String, route: BreakingRoute<'_>) -> Result<(), AllocError> {
-    out.push_str("  This route breaks it:\n")?;
-    for (number, step) in route.steps.iter().enumerate() {
-        add_step(out, number, *step)?;
-    }
-    add_ending(out, route)
-}
-
-// Adds where the rule breaks, and the route that shows it.
-fn add_break<N: Network<Set = Word>>(
-    out: &mut String,
-    net: &N,
-    work: &mut Work,
-    rows: &[Row],
-    at: RouteStep,
-) -> Result<(), AllocError> {
-    let RouteStep { place, setting } = at;
-    writeln!(
-        out,
-        "  It breaks at the entry {place} with {}.",
-        Setting(setting)
-    )?;
-    match work.breaking_route(net, rows, at) {
-        Some(route) => add_route(out, route),
-        None => out.push_str("  No single route shows why a rule of this form breaks.\n"),
-    }
-}
 
 // Adds whether a rule holds, and why it breaks if it does.
 fn add_verdict<N: Network<Set = Word>>(
@@ -92,7 +22,8 @@ fn add_verdict<N: Network<Set = Word>>(
         Ok(judgement) => match judgement.verdict {
             Verdict::Holds => out.push_str("  It holds at every entry under every setting.\n"),
             Verdict::Breaks(place, setting) => {
-                add_break(out, net, work, rows, RouteStep { place, setting })
+                let at = RouteStep { place, setting };
+                add_breaking(out, at, work.breaking_route(net, rows, at))
             }
         },
         Err(refusal) => writeln!(out, "  It is not judged (refusal {}).", refusal.number()),

@@ -1,7 +1,7 @@
 // The explanation of a plan's report, for people: what the rules say in words, and the routes that break them.
 #![tactic(auto)]
 
-mod breaking;
+pub mod breaking;
 pub mod explain;
 mod parts;
 mod phrase;

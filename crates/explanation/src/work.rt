@@ -1,9 +1,8 @@
 // Room to judge the rules of a plan in, and to show routes.
-use crate::breaking::{Breaking, breaking_parts};
-use crate::parts::whole;
+use crate::breaking::{BreakingRoute, is_of_step};
 use conditions::word::Word;
-use judging::route::route;
-use judging::shown::{Ending, RouteStep, Shown};
+use judging::breaking::show_breaking;
+use judging::shown::RouteStep;
 use report::rule::{MAIN_ROOM, SPARE_ROOM};
 use routing::network::{MOST_PLACES, Network};
 use routing::refusal::Refusal;
@@ -19,14 +18,6 @@ const NO_STEP: RouteStep = RouteStep {
     place: 0,
     setting: 0,
 };
-
-// A route that shows why a rule breaks: its steps, how it ends, and whether the rule is about steps.
-#[derive(Clone, Copy)]
-pub(crate) struct BreakingRoute<'a> {
-    pub(crate) steps: &'a [RouteStep],
-    pub(crate) ending: Ending,
-    pub(crate) is_of_step: bool,
-}
 
 #[derive(Drop)]
 pub(crate) struct Work {
@@ -53,36 +44,6 @@ impl Work {
         judge_entries(net, rows, &mut self.main, &mut self.spare)
     }
 
-    // Writes the steps of a route that shows a part at a position; absent where none does.
-    fn route<N: Network<Set = Word>>(
-        &mut self,
-        net: &N,
-        rows: &[Row],
-        part: u8,
-        at: RouteStep,
-    ) -> Option<Shown> {
-        let row = usize::from(part);
-        let Work { main, spare, steps } = self;
-        route(net, rows, row, at, main, spare, steps).ok()
-    }
-
-    // Writes the steps of a route that shows why a rule breaks.
-    fn break_route<N: Network<Set = Word>>(
-        &mut self,
-        net: &N,
-        rows: &[Row],
-        breaking: Breaking,
-        at: RouteStep,
-    ) -> Option<Shown> {
-        match breaking {
-            Breaking::Step(p) | Breaking::Route(p) => self.route(net, rows, p, at),
-            Breaking::Either(q, r) => match self.route(net, rows, q, at) {
-                None => self.route(net, rows, r, at),
-                shown => shown,
-            },
-        }
-    }
-
     // A route that shows why a rule breaks at a position; absent where no single route shows it.
     pub(crate) fn breaking_route<N: Network<Set = Word>>(
         &mut self,
@@ -90,12 +51,14 @@ impl Work {
         rows: &[Row],
         at: RouteStep,
     ) -> Option<BreakingRoute<'_>> {
-        let breaking = breaking_parts(rows, whole(rows))?;
-        let Shown { count, ending } = self.break_route(net, rows, breaking, at)?;
+        let Work { main, spare, steps } = self;
+        let shown = show_breaking(net, rows, at, main, spare, steps)
+            .ok()??
+            .shown;
         Some(BreakingRoute {
-            steps: self.steps.get(..count)?,
-            ending,
-            is_of_step: matches!(breaking, Breaking::Step(_)),
+            steps: self.steps.get(..shown.count)?,
+            ending: shown.ending,
+            is_of_step: is_of_step(rows),
         })
     }
 }

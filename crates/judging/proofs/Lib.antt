@@ -1,7 +1,10 @@
 pub mod Alike
 pub mod Asked
+pub mod Breakings
 pub mod Choices
+pub mod Counted
 pub mod Covers
+pub mod Exhibiting
 pub mod Fewest
 pub mod Hops
 pub mod Into
@@ -12,6 +15,7 @@ pub mod Right
 pub mod Rows
 pub mod RuleRows
 pub mod Same
+pub mod ShownRows
 pub mod Sofar
 pub mod Trails
 pub mod Turns

@@ -1,4 +1,5 @@
 pub mod Answers
+pub mod Breaking
 pub mod Callbacks
 pub mod Chosen
 pub mod Judged

@@ -2,6 +2,7 @@
 #![tactic(auto)]
 
 mod always;
+pub mod breaking;
 pub mod judge;
 mod next;
 mod notes;

@@ -16,7 +16,7 @@ use tables::row::{Operation, Row};
 use tables::table::{is_accepted, read_row};
 
 // The number of settings.
-fn settings<S: ConditionSet>() -> u32
+pub(crate) fn settings<S: ConditionSet>() -> u32
     ensures { result ≡ 2 ^ S.ConditionSet.count }
 {
     1 << S::conditions()

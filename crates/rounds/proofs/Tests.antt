@@ -46,7 +46,8 @@ pub record First (A : ℕ → Type 0) (k : ℕ) : Type 0 where
   pub is : A k
   pub none : (j : ℕ) → j < k → ¬ (A j)
 
-first_below : (n : ℕ) (A : ℕ → Type 0) → ((i : ℕ) → i < n → A i ⊎ (¬ (A i))) → ((k : ℕ) × (k < n) × First A k) ⊎ ((j : ℕ) → j < n → ¬ (A j))
+-- Some number below n is the first with a decided fact, or none below n has it.
+pub first_below : (n : ℕ) (A : ℕ → Type 0) → ((i : ℕ) → i < n → A i ⊎ (¬ (A i))) → ((k : ℕ) × (k < n) × First A k) ⊎ ((j : ℕ) → j < n → ¬ (A j))
 first_below zero A d = inr (λ j l. absurd (not-suc-le-zero l))
 first_below (suc n) A d = go (first_below n A (λ i l. d i (omega arith))) (d n (omega arith))
   where

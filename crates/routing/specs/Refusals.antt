@@ -2,7 +2,7 @@
 use Rattle.std.specs.Prelude.{ℕ, Bool, true, cond, ◌&&◌, ◌||◌, List, [], ◌∷◌, length, Some, None, Option, nat_lt}
 use Rattle.routing.specs.declared.binding.Binding.{Binding}
 use Rattle.routing.specs.declared.refusal.Refusal.{Refusal}
-use Rattle.routing.specs.declared.refusal.Refusal.TheVariants.{NoPlace, OverLimit, BadTable, BadQuery, NoBinding, TooShort, RowFails}
+use Rattle.routing.specs.declared.refusal.Refusal.TheVariants.{NoPlace, OverLimit, BadTable, BadQuery, NoOwnEnd, NoBinding, TooShort, NoCondition, ProposalOpen, BindingsFull, RulesFull, WrongTicket, NoSerial, RowFails}
 
 -- The number of each refusal.
 abbrev pub numbered : Refusal → ℕ
@@ -10,8 +10,15 @@ numbered NoPlace = 8
 numbered OverLimit = 9
 numbered BadTable = 10
 numbered BadQuery = 11
+numbered NoOwnEnd = 12
 numbered NoBinding = 13
 numbered TooShort = 14
+numbered NoCondition = 15
+numbered ProposalOpen = 20
+numbered BindingsFull = 21
+numbered RulesFull = 22
+numbered WrongTicket = 23
+numbered NoSerial = 24
 numbered RowFails = 26
 
 -- Each end of each binding is one of n places.

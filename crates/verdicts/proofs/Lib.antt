@@ -1,3 +1,4 @@
 pub mod Verdicts
 pub mod Rehearsals
 pub mod Shutting
+pub mod Once
