@@ -1,0 +1,9 @@
+pub mod Own
+pub mod Paper
+pub mod Calls
+pub mod Refused
+pub mod Rules
+pub mod Does
+pub mod History
+pub mod Law
+pub mod Claims
