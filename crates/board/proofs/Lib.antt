@@ -1,0 +1,4 @@
+pub mod Entries
+pub mod Listed
+pub mod Judging
+pub mod Playing

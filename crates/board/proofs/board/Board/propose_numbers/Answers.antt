@@ -1,0 +1,5 @@
+use Rattle.std.proofs.Common.{rules}
+use Rattle.board.proofs.board.Board.propose_numbers.Goals as goal
+
+pub returns-clause-does : goal.returns-clause-does
+returns-clause-does g c = search rules
