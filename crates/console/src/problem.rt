@@ -1,9 +1,9 @@
 // Why a run fails, as it is told on standard error.
-use crate::refused::RefusedPlan;
+use crate::refused::{RefusedPlan, RefusedScript};
 use std::alloc::AllocError;
 use std::{fmt, io};
 
-// Where a plan is read from.
+// Where a plan or a script is read from.
 #[derive(Drop)]
 pub enum Source {
     Stdin,
@@ -28,13 +28,20 @@ pub enum Problem {
     UnknownOption(String),
     // The command line names this plan after another.
     SecondPlan(String),
+    // The command line names this script after another.
+    SecondScript(String),
+    // The command line names no script to play.
+    NoScript,
+    // The plan and the script are both to be read from standard input.
+    StdinTwice,
     // The input has more bytes than can be counted.
     Uncounted(Source),
     Refused(RefusedPlan),
+    RefusedScript(RefusedScript),
     NoMemory,
 }
 
-// The plan that a word of the command line names: `-` is standard input.
+// The plan or the script that a word of the command line names: `-` is standard input.
 impl From<String> for Source {
     fn from(word: String) -> Source {
         if word.as_str() == "-" {
@@ -100,8 +107,17 @@ impl fmt::Display for Problem {
                 f,
                 "{name} is a second plan; one plan is read at a time"
             ),
+            Problem::SecondScript(name) => write!(
+                f,
+                "{name} is a second script; one script is played at a time"
+            ),
+            Problem::NoScript => f.write_str("a board needs a plan and a script; --help says how"),
+            Problem::StdinTwice => f.write_str(
+                "the plan and the script cannot both be standard input",
+            ),
             Problem::Uncounted(source) => write!(f, "{source} is too long to be counted"),
             Problem::Refused(plan) => fmt::Display::fmt(plan, f),
+            Problem::RefusedScript(script) => fmt::Display::fmt(script, f),
             Problem::NoMemory => f.write_str("there is not enough memory"),
         }
     }

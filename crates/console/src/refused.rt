@@ -4,6 +4,7 @@ use explanation::text::Printable;
 use plan::fault::{FileFault, FileFaultKind, PlanFault};
 use plan::file::rules::rule_text;
 use rule_text::fault::{Fault, FaultKind};
+use session::fault::{ScriptFault, ScriptFaultKind};
 use std::fmt;
 
 // A plan that is refused: where it is from, the front of its file, and its fault.
@@ -21,6 +22,13 @@ fn file_words(kind: FileFaultKind) -> &'static str {
         FileFaultKind::NoPlace => "a binding end is not a place",
         FileFaultKind::OverLimit => "a count or a text's length is over its limit",
     }
+}
+
+// A script that is refused: where it is from, and its fault.
+#[derive(Drop)]
+pub struct RefusedScript {
+    pub source: Source,
+    pub fault: ScriptFault,
 }
 
 fn text_words(fault: Fault, length: usize) -> &'static str {
@@ -77,5 +85,41 @@ impl fmt::Display for RefusedPlan {
                 write_text_fault(f, rule, text, fault)
             }
         }
+    }
+}
+
+// Writes what is wrong in a script.
+fn write_script_fault<W: fmt::Write>(
+    f: &mut fmt::Formatter<W>,
+    kind: ScriptFaultKind,
+) -> fmt::Result {
+    match kind {
+        ScriptFaultKind::TooLong => f.write_str("it has over 1048576 bytes"),
+        ScriptFaultKind::NoCall => f.write_str("a line begins with a word that names no call"),
+        ScriptFaultKind::NoChange => f.write_str("a word names no change"),
+        ScriptFaultKind::NoDigit => f.write_str("a byte of a number is no digit"),
+        ScriptFaultKind::OverField(bits) => write!(f, "a number has over {bits} bits"),
+        ScriptFaultKind::TooFewWords => f.write_str("a word is missing"),
+        ScriptFaultKind::TooManyWords => f.write_str("a word is one too many"),
+        ScriptFaultKind::NotOpened => f.write_str("no board is opened before"),
+        ScriptFaultKind::SecondOpen => f.write_str("a board is opened before"),
+        ScriptFaultKind::BadRule { fault, length } => {
+            let words = text_words(fault, length);
+            let number = fault.number();
+            write!(
+                f,
+                "{words} (refusal {number}, at byte {} of the rule)",
+                fault.byte
+            )
+        }
+    }
+}
+
+impl fmt::Display for RefusedScript {
+    fn fmt<W: fmt::Write>(&self, f: &mut fmt::Formatter<W>) -> fmt::Result {
+        let ScriptFault { kind, line, column } = self.fault;
+        write!(f, "{} is refused: ", self.source)?;
+        write_script_fault(f, kind)?;
+        write!(f, ", line {line}, column {column}")
     }
 }

@@ -1,21 +1,15 @@
 // A run of the program.
-use crate::command::{Command, Request, read_words};
+use crate::command::{Command, Options, Request};
 use crate::help::HELP;
-use crate::input::{Input, read_source};
+use crate::input::{Extent, Input, read_source};
+use crate::output::print;
+use crate::play::play;
 use crate::problem::{Problem, Task};
 use crate::refused::RefusedPlan;
 use explanation::explain::explained;
 use report::file::report_front;
 use std::env;
-use std::io::Write;
 use std::process::ExitCode;
-
-fn print(rt: &HostRuntime, bytes: &[u8]) -> Result<(), Problem> {
-    match rt.stdout().write_all(bytes) {
-        Ok(()) => Ok(()),
-        Err(error) => Err(Problem::Undone(Task::Write, error)),
-    }
-}
 
 // Prints the report of a plan file, with what explains it if that is asked for.
 fn print_report(
@@ -37,7 +31,7 @@ fn check(rt: &HostRuntime, request: Request) -> Result<(), Problem> {
         source,
         front,
         behind,
-    } = read_source(rt, source)?;
+    } = read_source(rt, source, Extent::Plan)?;
     let Some(report) = report_front(&front, behind) else {
         return Err(Problem::Uncounted(source));
     };
@@ -52,34 +46,45 @@ fn check(rt: &HostRuntime, request: Request) -> Result<(), Problem> {
     }))
 }
 
-fn read_command(rt: &HostRuntime) -> Result<Command, Problem> {
+// Takes the words behind the program's name into account.
+fn read_words(rt: &HostRuntime, options: &mut Options) -> Result<(), Problem> {
     match env::args(rt) {
-        Ok(words) => read_words(words),
+        Ok(words) => {
+            for word in words.skip(1) {
+                options.add(word)?;
+            }
+            Ok(())
+        }
         Err(error) => Err(Problem::Undone(Task::ReadWords, error)),
     }
 }
 
-fn fail(rt: &HostRuntime, problem: Problem) -> ExitCode {
+fn fail(rt: &HostRuntime, problem: Problem, status: ExitCode) -> ExitCode {
     let _ = eprintln!(rt; "routecheck: {problem}");
-    ExitCode::FAILURE
+    status
 }
 
 // Does what a command asks for, and answers the status to exit with. A failure is told on standard error.
 pub fn serve(rt: &HostRuntime, command: Command) -> ExitCode {
+    let failure = command.failure();
     let done = match command {
-        Command::Help => print(rt, HELP.as_bytes()),
-        Command::Check(request) => check(rt, request),
+        Command::Help => print(rt, HELP.as_bytes()).map(|()| ExitCode::SUCCESS),
+        Command::Check(request) => check(rt, request).map(|()| ExitCode::SUCCESS),
+        Command::Board(request) => play(rt, request),
     };
     match done {
-        Ok(()) => ExitCode::SUCCESS,
-        Err(problem) => fail(rt, problem),
+        Ok(status) => status,
+        Err(problem) => fail(rt, problem, failure),
     }
 }
 
 // Does what the command line asks for, as `serve` does.
 pub fn run(rt: &HostRuntime) -> ExitCode {
-    match read_command(rt) {
+    let mut options = Options::default();
+    let read = read_words(rt, &mut options);
+    let failure = options.failure();
+    match read.and_then(|()| options.command()) {
         Ok(command) => serve(rt, command),
-        Err(problem) => fail(rt, problem),
+        Err(problem) => fail(rt, problem, failure),
     }
 }
