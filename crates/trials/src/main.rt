@@ -4,6 +4,7 @@
 // was to be tried was not.
 #![tactic(auto)]
 
+mod boards;
 mod comparison;
 mod counts;
 mod explorer;
@@ -22,6 +23,7 @@ mod trial;
 mod tried;
 
 use anyhow::ensure;
+use boards::try_boards;
 use conditions::plain::Plain;
 use conditions::word::Word;
 use file_cases::try_files;
@@ -49,6 +51,7 @@ fn try_networks(rt: &(impl AllocGlobal + Print)) -> anyhow::Result<()> {
 
 fn main(rt: HostRuntime) -> anyhow::Result<()> {
     try_networks(&rt)?;
+    try_boards(&rt)?;
     try_texts(&rt)?;
     try_files(&rt)
 }

@@ -212,6 +212,24 @@ impl<'a> Query<'a> {
     }
 }
 
+// Whether a way with its ending shows a row at a position, where the row holds.
+pub fn is_shown(
+    rows: &Rows,
+    row: u8,
+    at: RouteStep,
+    way: &[RouteStep],
+    ending: Ending,
+) -> Result<bool, AllocError> {
+    let Some(found) = rows.found.get(usize::from(row)) else {
+        return Ok(false);
+    };
+    let Some(kind) = route_kind(found.operation) else {
+        return Ok(false);
+    };
+    let query = Query::new(rows, found, kind, at)?;
+    Ok(query.holds && is_trail(rows.graph, at, way) && query.is_shown_by(way, ending))
+}
+
 // Asks for routes of each row that says next, until or always, at some settings of each place, and compares the answers.
 pub fn compare_routes<N: Network>(
     net: &N,
