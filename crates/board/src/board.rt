@@ -33,10 +33,13 @@ use std::alloc::Global;
 use tables::row::Row;
 use tables::table::{MOST_ROWS, is_accepted};
 
+/// The most rules that are adopted at one time.
 pub const MOST_RULES: usize = 8;
 
 pub(crate) type KeptTable = ArrayVec<Row, MOST_ROWS>;
 
+/// A board: own places and bindings in front of a far network, the rules that were adopted, and the open proposal, if one is
+/// open. It is a network itself, the standing network: own places first, then far ones; own bindings first, then far ones.
 #[derive(Drop)]
 pub struct Board<F: Network> {
     pub(crate) number: u32,
