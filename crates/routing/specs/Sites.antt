@@ -1,8 +1,10 @@
 -- What a site table means.
-use Rattle.std.specs.Prelude.{ℕ, Bool, List}
+use Rattle.std.specs.Prelude.{◌≡◌, ℕ, Bool, List, [], Some, None, Option}
 use Rattle.routing.specs.declared.binding.Binding.{Binding}
 use Rattle.routing.specs.declared.site.SiteTable.{SiteTable}
+use Rattle.routing.specs.declared.refusal.Refusal.{Refusal}
 use Rattle.routing.specs.Net.{Net}
+use Rattle.routing.specs.Refusals.{opening}
 use Rattle.routing.specs.Bindings.{net_of, Fits}
 use Rattle.routing.specs.Fitting.{lists_fit}
 
@@ -20,3 +22,8 @@ site_meaning K holds t = net_of K holds (site_marks t) (site_records t)
 -- It keeps to the limits of a network.
 pub site_fits : {S : Type 0} (K : ℕ) (holds : S → ℕ → Bool) (t : SiteTable S) → Fits (site_meaning K holds t)
 site_fits K holds t = lists_fit K holds (site_marks t) (site_records t) t.few_places t.few_bindings t.ends
+
+-- What opening marks and records comes to: the table of them, or their refusal beside the table with no places.
+abbrev pub Opening : {S : Type 0} → List ℕ → List (Binding S) → SiteTable S → Option Refusal → Type 0
+Opening marks records t None = (opening marks records ≡ None) × (site_marks t ≡ marks) × (site_records t ≡ records)
+Opening marks records t (Some e) = (opening marks records ≡ Some e) × (site_marks t ≡ []) × (site_records t ≡ [])

@@ -3,7 +3,7 @@ ghost use Rattle.std.specs.Prelude.{◌≡◌, IfOk, refl};
 ghost use Rattle.std.specs.Result.{result_err};
 ghost use Rattle.routing.specs.Bindings.{net_of};
 ghost use Rattle.routing.specs.Refusals.{opening};
-ghost use Rattle.routing.specs.Sites.{site_marks, site_meaning, site_records, site_fits};
+ghost use Rattle.routing.specs.Sites.{Opening, site_marks, site_meaning, site_records, site_fits};
 
 use crate::binding::Binding;
 use crate::network::{MOST_BINDINGS, MOST_PLACES, Network};
@@ -37,6 +37,12 @@ impl<'a, S: ConditionSet> Network for SiteTable<'a, S> {
     }
 }
 
+// A site table, and why it was refused, if it was.
+pub struct OpenedSite<'a, S> {
+    pub site: SiteTable<'a, S>,
+    pub refusal: Option<Refusal>,
+}
+
 impl<'a, S: ConditionSet> SiteTable<'a, S> {
     // Opens a site table on the lent marks and records, which it then means in their order.
     pub fn open(marks: &'a [u32], records: &'a [Binding<S>]) -> Result<SiteTable<'a, S>, Refusal>
@@ -55,5 +61,24 @@ impl<'a, S: ConditionSet> SiteTable<'a, S> {
             }
         }
         Ok(SiteTable { marks, records })
+    }
+
+    // Opens a site table as `open` does; where that is refused, answers the refusal beside the table with no places.
+    pub fn opened(marks: &'a [u32], records: &'a [Binding<S>]) -> OpenedSite<'a, S>
+        ensures { Opening marks.now records.now result.site result.refusal }
+    {
+        match SiteTable::open(marks, records) {
+            Ok(site) => OpenedSite {
+                site,
+                refusal: None,
+            },
+            Err(refusal) => OpenedSite {
+                site: SiteTable {
+                    marks: &[],
+                    records: &[],
+                },
+                refusal: Some(refusal),
+            },
+        }
     }
 }
