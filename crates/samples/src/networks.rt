@@ -1,4 +1,7 @@
 // The trial networks as lists, and their rules as tables.
+ghost use Rattle.std.specs.Prelude.{◌≡◌};
+ghost use Rattle.samples.specs.Networks.{p_marks, p_records, l_marks, l_records};
+
 use conditions::word::Word;
 use routing::binding::Binding;
 use tables::row::Operation;
@@ -32,6 +35,34 @@ pub const L_BINDINGS: [Binding<Word>; 3] = [
         set: Word(0x5555_5555_5555_5555),
     },
 ];
+
+// The marks of P's places.
+pub fn p_marks() -> [u32; 2]
+    ensures { result ≡ p_marks }
+{
+    P_MARKS
+}
+
+// P's bindings.
+pub fn p_bindings() -> [Binding<Word>; 1]
+    ensures { result ≡ p_records }
+{
+    P_BINDINGS
+}
+
+// The marks of L's places.
+pub fn l_marks() -> [u32; 3]
+    ensures { result ≡ l_marks }
+{
+    L_MARKS
+}
+
+// L's bindings.
+pub fn l_bindings() -> [Binding<Word>; 3]
+    ensures { result ≡ l_records }
+{
+    L_BINDINGS
+}
 
 // AF m1: m1, not, some route keeps to it, not.
 pub const AF_M1: [Operation; 4] = [
