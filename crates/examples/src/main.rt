@@ -28,20 +28,24 @@ fn is_to_write(rt: &HostRuntime) -> anyhow::Result<bool> {
     }
 }
 
-fn check_plans(rt: &HostRuntime) -> anyhow::Result<()> {
-    let examples = [trial::example(), warehouse::example()];
+// Writes the files of the examples, where that is asked for.
+fn write_asked(rt: &HostRuntime, examples: &[Example]) -> anyhow::Result<()> {
     if is_to_write(rt)? {
-        for example in &examples {
+        for example in examples {
             write_example(rt, example)?;
         }
-    }
-    for example in &examples {
-        check_example(rt, example)?;
     }
     Ok(())
 }
 
+// Files are written first, so that this does not hang on what can be printed; why it failed is told behind the networks.
 fn main(rt: HostRuntime) -> anyhow::Result<()> {
+    let examples = [trial::example(), warehouse::example()];
+    let done = write_asked(&rt, &examples);
     print_networks(&rt)?;
-    check_plans(&rt)
+    done?;
+    for example in &examples {
+        check_example(&rt, example)?;
+    }
+    Ok(())
 }

@@ -12,3 +12,8 @@ pub fn halves<'a>(text: &'a str, mark: &str) -> (&'a str, &'a str) {
 pub fn number(text: &str) -> usize {
     text.parse().unwrap_or(0)
 }
+
+// The byte that a character stands for.
+pub fn byte_of(c: char) -> u8 {
+    u8::try_from(c).unwrap_or(b'?')
+}

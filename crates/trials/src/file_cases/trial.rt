@@ -1,14 +1,9 @@
 // Reports a damaged file and compares what is printed with what must be.
 use crate::file_cases::files::file_bytes;
-use crate::spelling::{END, halves, number};
+use crate::spelling::{END, byte_of, halves, number};
 use crate::tried::Tried;
 use report::file::report;
 use std::alloc::{AllocError, Global};
-
-// The byte that a character stands for.
-fn byte_of(c: char) -> u8 {
-    u8::try_from(c).unwrap_or(b'?')
-}
 
 // Writes `START BYTES`: bytes over those from a start on; what would stand behind the end is left out.
 fn overwrite(file: &mut Vec<u8>, written: &str) {

@@ -1,5 +1,5 @@
 // Reads a text and compares what it gives with what it must give.
-use crate::spelling::{END, halves, number};
+use crate::spelling::{END, byte_of, halves, number};
 use crate::tried::Tried;
 use conditions::set::ConditionSet;
 use rule_text::read::read_rule;
@@ -26,6 +26,15 @@ impl fmt::Display for Rows<'_> {
     }
 }
 
+// The bytes of a text, one for each character.
+fn bytes_of(heap: Global, text: &str) -> Result<Vec<u8>, AllocError> {
+    let mut bytes = Vec::new(heap);
+    for c in text.chars() {
+        bytes.push(byte_of(c))?;
+    }
+    Ok(bytes)
+}
+
 // The text that a case gives, or that is built of what it gives.
 fn text_of(heap: Global, spelled: &str) -> Result<String, AllocError> {
     let (front, rest) = halves(spelled, ",");
@@ -35,8 +44,8 @@ fn text_of(heap: Global, spelled: &str) -> Result<String, AllocError> {
 }
 
 // What reading the text gives, spelled; it is counted.
-fn read<S: ConditionSet>(text: &str, tried: &mut Tried) -> Result<String, AllocError> {
-    match read_rule::<S>(text.as_bytes()) {
+fn read<S: ConditionSet>(text: &[u8], tried: &mut Tried) -> Result<String, AllocError> {
+    match read_rule::<S>(text) {
         Ok(table) => {
             tried.outcomes.add(None);
             Rows(table.rows()).to_string(tried.heap)
@@ -52,7 +61,8 @@ fn read<S: ConditionSet>(text: &str, tried: &mut Tried) -> Result<String, AllocE
 fn try_case<S: ConditionSet>(case: &str, tried: &mut Tried) -> Result<(), AllocError> {
     let (spelled, _) = halves(case, ": ");
     let text = text_of(tried.heap, spelled)?;
-    let got = read::<S>(&text, tried)?;
+    let bytes = bytes_of(tried.heap, &text)?;
+    let got = read::<S>(&bytes, tried)?;
     tried.compare(case, &got)
 }
 
