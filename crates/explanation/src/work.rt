@@ -1,7 +1,7 @@
 // Room to judge the rules of a plan in, and to show routes.
 use crate::breaking::{BreakingRoute, is_of_step};
 use conditions::word::Word;
-use judging::breaking::show_breaking;
+use judging::breaking::{BreakingForm, breaking_form, show_breaking};
 use judging::shown::RouteStep;
 use report::rule::{MAIN_ROOM, SPARE_ROOM};
 use routing::network::{MOST_PLACES, Network};
@@ -51,6 +51,10 @@ impl Work {
         rows: &[Row],
         at: RouteStep,
     ) -> Option<BreakingRoute<'_>> {
+        // The form alone tells it, so that nothing is judged for a route that there is not.
+        if breaking_form(rows) == BreakingForm::Other {
+            return None;
+        }
         let Work { main, spare, steps } = self;
         let shown = show_breaking(net, rows, at, main, spare, steps)
             .ok()??
