@@ -8,21 +8,20 @@ use crate::space::Space;
 use crate::tally::{Seen, Tally};
 use judging::judge::judge;
 use routing::network::Network;
-use rule_text::fault::FaultKind;
-use rule_text::read::{MOST_BYTES, read_rule};
+use rule_text::read::read_rule;
 use std::alloc::AllocError;
 use tables::row::Row;
-use tables::table::MOST_ROWS;
 
 // The sets of 32 rows at ten places.
 const MAIN: usize = 320;
 
-// The fault that a text has for its size: its bytes are counted before its rows.
-fn size_fault(rule: &Spelled) -> Option<FaultKind> {
-    if rule.text.len() > MOST_BYTES {
-        Some(FaultKind::TooLong)
-    } else if rule.rows > MOST_ROWS {
-        Some(FaultKind::TooManyRows)
+// The number of the refusal that a text has for its size: 9 for its bytes, else 5 for its rows, else none. The limits and the
+// numbers are not those of the libraries that are tried.
+fn size_refusal(rule: &Spelled) -> Option<u8> {
+    if rule.text.len() > 200 {
+        Some(9)
+    } else if rule.rows > 32 {
+        Some(5)
     } else {
         None
     }
@@ -74,7 +73,7 @@ fn compare_text<N: Network>(
     held: &PositionSet,
     tally: &mut Tally,
 ) -> Result<(), AllocError> {
-    let expected = size_fault(rule);
+    let expected = size_refusal(rule);
     match read_rule::<N::Set>(rule.text.as_bytes()) {
         Ok(table) => {
             let rows = table.rows();
@@ -85,7 +84,7 @@ fn compare_text<N: Network>(
         }
         Err(fault) => {
             tally.add(Seen::LargeTexts, 1);
-            tally.add_if(Seen::WrongReadings, expected != Some(fault.kind));
+            tally.add_if(Seen::WrongReadings, expected != Some(fault.number()));
             Ok(())
         }
     }

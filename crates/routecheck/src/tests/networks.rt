@@ -66,5 +66,6 @@ fn short_list(rt: HostRuntime) {
     let table = AF_M1.map(Row::from);
     let judged = judge_site(&L_MARKS, &L_BINDINGS, &table, &mut main, &mut spare);
     assert_eq!(rt; judged, Err(Refusal::TooShort));
+    assert_eq!(rt; Refusal::TooShort.number(), 14);
     assert!(rt; main == [Word(7); 11] && spare == [Word(7); 6]);
 }

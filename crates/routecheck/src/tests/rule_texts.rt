@@ -4,14 +4,14 @@ use rule_text::fault::FaultKind;
 use rule_text::read::read_rule;
 use std::process::Abort;
 
-// The number of rows, or the kind of the fault and its byte.
-type Answer = Result<usize, (FaultKind, usize)>;
+// The number of rows, or the number of the refusal, the kind of the fault and its byte.
+type Answer = Result<usize, (u32, FaultKind, usize)>;
 
-const UNKNOWN: Answer = Err((FaultKind::UnknownWord, 0));
+const UNKNOWN: Answer = Err((1, FaultKind::UnknownWord, 0));
 
-const LARGE: Answer = Err((FaultKind::OutOfRange, 0));
+const LARGE: Answer = Err((3, FaultKind::OutOfRange, 0));
 
-const UNFIT: Answer = Err((FaultKind::CannotFollow, 3));
+const UNFIT: Answer = Err((2, FaultKind::CannotFollow, 3));
 
 const WORDS: [(&[u8], Answer); 17] = [
     (b"EXm0", UNKNOWN),
@@ -22,7 +22,7 @@ const WORDS: [(&[u8], Answer); 17] = [
     (b"m0Um1", UNKNOWN),
     (b"m00", UNKNOWN),
     (b"\t", UNKNOWN),
-    (b"m0_", Err((FaultKind::UnknownWord, 2))),
+    (b"m0_", Err((1, FaultKind::UnknownWord, 2))),
     (b"m32", LARGE),
     (b"c6", LARGE),
     (b"m4294967296", LARGE),
@@ -37,8 +37,8 @@ const FOLLOWS: [(&[u8], Answer); 6] = [
     (b"m0 m1 $", UNFIT),
     (b"(m0", UNFIT),
     (b"m0&", UNFIT),
-    (b"", Err((FaultKind::CannotFollow, 0))),
-    (b"m0 m32", Err((FaultKind::OutOfRange, 3))),
+    (b"", Err((2, FaultKind::CannotFollow, 0))),
+    (b"m0 m32", Err((3, FaultKind::OutOfRange, 3))),
     (b"E [ m0 U m1 ]", Ok(3)),
 ];
 
@@ -46,19 +46,19 @@ const FOLLOWS: [(&[u8], Answer); 6] = [
 const LEVELS: [(&[u8], Answer); 4] = [
     (
         b"!!!!!!!!!!!!!!!!!!!!!!!!!!!!!!!!!",
-        Err((FaultKind::TooDeep, 32)),
+        Err((4, FaultKind::TooDeep, 32)),
     ),
     (
         b"!!!!!!!!!!!!!!!!!!!!!!!!!!!!!!!!m0",
-        Err((FaultKind::TooDeep, 32)),
+        Err((4, FaultKind::TooDeep, 32)),
     ),
     (
         b"!!!!!!!!!!!!!!!!!!!!!!!!!!!!!!!E[m0 U m1]",
-        Err((FaultKind::TooDeep, 33)),
+        Err((4, FaultKind::TooDeep, 33)),
     ),
     (
         b"!!!!!!!!!!!!!!!!!!!!!!!!!!!!!!!!)",
-        Err((FaultKind::CannotFollow, 32)),
+        Err((2, FaultKind::CannotFollow, 32)),
     ),
 ];
 
@@ -66,15 +66,15 @@ const ROWS: [(&[u8], Answer); 3] = [
     (b"!!!!!!!!!!!!!!!!!!!!!!!!!!!!!!!m0", Ok(32)),
     (
         b"A[A[A[A[m0 U m1] U m1] U m1] U m1]",
-        Err((FaultKind::TooManyRows, 34)),
+        Err((5, FaultKind::TooManyRows, 34)),
     ),
-    (&[b' '; 201], Err((FaultKind::TooLong, 200))),
+    (&[b' '; 201], Err((9, FaultKind::TooLong, 200))),
 ];
 
 fn read(text: &[u8]) -> Answer {
     match read_rule::<Word>(text) {
         Ok(table) => Ok(table.rows().len()),
-        Err(fault) => Err((fault.kind, fault.byte)),
+        Err(fault) => Err((u32::from(fault.number()), fault.kind, fault.byte)),
     }
 }
 
