@@ -1,3 +1,4 @@
 pub mod Bits
 pub mod Words
 pub mod Picking
+pub mod AnyWidth

@@ -26,7 +26,7 @@ alike false false e = refl
 alike true false e = sym e
 alike false true e = e
 
-guarded : (t x y : Bool) → (t ≡ true → x ≡ y) → (t && x) ≡ (t && y)
+pub guarded : (t x y : Bool) → (t ≡ true → x ≡ y) → (t && x) ≡ (t && y)
 guarded true x y h = h refl
 guarded false x y h = refl
 
@@ -39,7 +39,7 @@ both_of : (t x y : Bool) → (t && (x && y)) ≡ ((t && x) && (t && y))
 both_of true x y = refl
 both_of false x y = refl
 
-outside_of : (t x : Bool) → (t && not x) ≡ (t && not (t && x))
+pub outside_of : (t x : Bool) → (t && not x) ≡ (t && not (t && x))
 outside_of true x = refl
 outside_of false x = refl
 

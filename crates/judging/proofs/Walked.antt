@@ -10,7 +10,7 @@ use Rattle.judging.specs.Chosen.{Chosen, index_of, returns_or, rests_or, next_in
 use Rattle.judging.specs.Steps.{as_pos, as_step, as_steps, as_next, Written}
 
 -- One record more at the front.
-take_set : {X : Type 0} (xs : List X) (k : ℕ) (v : X) → k < length xs → take (k + 1) (set xs k v) ≡ take k xs ++ (v ∷ [])
+pub take_set : {X : Type 0} (xs : List X) (k : ℕ) (v : X) → k < length xs → take (k + 1) (set xs k v) ≡ take k xs ++ (v ∷ [])
 take_set xs k v l = rw add-one (go xs k l)
   where
     go : (ys : List _) (j : ℕ) → j < length ys → take (suc j) (set ys j v) ≡ take j ys ++ (v ∷ [])
@@ -19,11 +19,11 @@ take_set xs k v l = rw add-one (go xs k l)
     go (y ∷ ys) (suc j) l = ap (λ (zs : List _). y ∷ zs) (go ys j (omega arith))
 
 -- Lists that agree from k on agree from k + 1 on.
-drop_more : {X : Type 0} (xs ys : List X) (k : ℕ) → drop k xs ≡ drop k ys → drop (k + 1) xs ≡ drop (k + 1) ys
+pub drop_more : {X : Type 0} (xs ys : List X) (k : ℕ) → drop k xs ≡ drop k ys → drop (k + 1) xs ≡ drop (k + 1) ys
 drop_more xs ys k e = sym (drop-drop 1 k xs) ∙ ap (drop 1) e ∙ drop-drop 1 k ys
 
 -- Records are their positions.
-steps_of : (xs : List RouteStep) → as_steps (map as_pos xs) ≡ xs
+pub steps_of : (xs : List RouteStep) → as_steps (map as_pos xs) ≡ xs
 steps_of [] = refl
 steps_of (x ∷ xs) = ap (λ (ys : List RouteStep). x ∷ ys) (steps_of xs)
 
